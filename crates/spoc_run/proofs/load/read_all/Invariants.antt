@@ -1,0 +1,18 @@
+use Rattle.std.proofs.Common.{◌≡◌, ◌≤◌, ◌++◌, All, map, IsSome}
+use Rattle.std.specs.Option.{ForSome}
+use Rattle.spoc_io.specs.Files.{Files, bytes_at}
+use Rattle.spoc_run.specs.Policy.{with_bytes, first_large, most_of_all}
+use Rattle.compile_core.specs.Compiled.{source_pair}
+use Rattle.spoc_run.specs.Sources.{ReadsOn}
+use Rattle.spoc_run.proofs.load.read_all.Given as goal
+
+abbrev pub invariant-loop-path : goal.invariant-loop-path
+invariant-loop-path g l =
+    let folder = g.P.Folder in
+    record {
+      same : folder.files l.policy ≡ folder.files l.fn.policy;
+      told : ForSome (folder.files l.fn.policy) (λ fs. ReadsOn fs l.fn.wanted.keys l.path-iterator l.sources.items l.left);
+      later : folder.faults l.fn.policy ≤ folder.faults l.policy;
+      larger : folder.larges l.fn.policy ≤ folder.larges l.policy;
+      left : l.left ≤ most_of_all;
+    }

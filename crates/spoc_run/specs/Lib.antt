@@ -1,0 +1,9 @@
+pub mod Paths
+pub mod Policy
+pub mod Sources
+pub mod Texts
+pub mod Outcome
+pub mod Puts
+pub mod Answer
+pub mod Decided
+pub mod Caused

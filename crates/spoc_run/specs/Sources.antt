@@ -1,0 +1,28 @@
+-- What was read.
+use Rattle.std.specs.Prelude.{◌≡◌, ◌≤◌, ◌++◌, ℕ, List, Result, IfErr, IsErrOf, IsSome, All, map}
+use Rattle.spoc_io.specs.Files.{Files, bytes_at}
+use Rattle.spoc_io.specs.Causes.{Rose}
+use Rattle.compile_core.specs.Compiled.{source_pair}
+use Rattle.spoc_base.specs.declared.place.Source.{Source}
+use Rattle.spoc_run.specs.Policy.{with_bytes, first_large, most_of_all}
+use Rattle.spoc_run.specs.declared.load.LoadFail.{LoadFail}
+use Rattle.spoc_run.specs.declared.load.LoadFail.TheVariants.{Read, Large, Memory}
+
+-- P holds of the path of a file that is too large
+abbrev pub IsLargeOf : (List ℕ → Type 0) → LoadFail → Type 0
+IsLargeOf P Read = Unit {0}
+IsLargeOf P (Large path) = P path
+IsLargeOf P Memory = Unit {0}
+
+-- a failed read and a file that is too large come only where the counts of these rose
+pub record HasLoadCause {T : Type 0} (faults faults' larges larges' : ℕ) (result : Result T LoadFail) : Type 0 where
+  pub later : faults ≤ faults'
+  pub larger : larges ≤ larges'
+  pub read : IsErrOf result Read → Rose faults faults'
+  pub large : IfErr result (IsLargeOf (λ _. Rose larges larges'))
+
+-- so far these files were read, and these paths and so many bytes are left
+pub record ReadsOn (files : Files) (all rest : List (List ℕ)) (sources : List Source) (left : ℕ) : Type 0 where
+  pub read : map source_pair sources ++ with_bytes files rest ≡ with_bytes files all
+  pub large : first_large left (with_bytes files rest) ≡ first_large most_of_all (with_bytes files all)
+  pub there : All (λ path. IsSome (bytes_at files path)) rest

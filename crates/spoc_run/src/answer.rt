@@ -1,0 +1,114 @@
+ghost use Rattle.std.specs.Prelude.{◌≡◌, [], map, Err};
+ghost use Rattle.std.specs.Str.{bytes_eq};
+ghost use Rattle.std.specs.List.{IsDistinct};
+ghost use Rattle.spoc_io.specs.Files.{paths};
+ghost use Rattle.compile_core.specs.Compiled.{source_pair, file_pair, written_of};
+ghost use Rattle.compile_core.specs.Outcome.{outcome_of};
+ghost use Rattle.spoc_run.specs.Answer.{bytes_of_message};
+ghost use Rattle.spoc_run.specs.Decided.{IsCompiled, AnswersSources, AnswersFail};
+
+use crate::load::LoadFail;
+use crate::texts::{fault_line, too_large};
+use compile_core::{Compiled, DeviceFile, compile, summary_text};
+use spoc_base::{Fault, Refusal, Row, Source, Text};
+use std::alloc::Global;
+
+/// What is written for a status.
+#[derive(Debug, Drop)]
+pub enum Message {
+    /// The words match no form.
+    Usage,
+    /// The policy folder failed.
+    ReadFault,
+    /// Memory ran out.
+    NoRoom,
+    /// A text that was made for this policy.
+    Made(Text),
+}
+
+impl Message {
+    /// The bytes that are written.
+    pub fn bytes(&self) -> &[u8]
+        ensures { result.now ≡ bytes_of_message self.now }
+    {
+        match self {
+            Message::Usage => b"usage\n",
+            Message::ReadFault => b"read fault\n",
+            Message::NoRoom => b"memory\n",
+            Message::Made(text) => text.bytes(),
+        }
+    }
+}
+
+/// What is to be done, before anything is written.
+#[derive(Debug, Drop)]
+pub struct Answer {
+    pub status: u8,
+    pub text: Message,
+    pub files: Row<DeviceFile>,
+}
+
+/// A status without device files.
+pub fn plain(alloc: Global, status: u8, text: Message) -> Answer
+    ensures status { result.status ≡ status }
+    ensures text { result.text ≡ text }
+    ensures files { result.files ≡ [] }
+    ensures names { IsDistinct bytes_eq (paths (map file_pair result.files)) }
+{
+    Answer {
+        status,
+        text,
+        files: Row::of(Vec::new(alloc)),
+    }
+}
+
+// The answer for a policy that is accepted.
+fn answer_for_compiled(alloc: Global, sources: &[Source], compiled: Compiled) -> Answer
+    requires { IsCompiled (map source_pair sources.now) (written_of compiled) }
+    ensures { AnswersSources (map source_pair sources.now) result.status (bytes_of_message result.text) (map file_pair result.files) }
+{
+    match summary_text(alloc, &compiled.summary) {
+        Ok(summary) => Answer {
+            status: 0,
+            text: Message::Made(summary),
+            files: compiled.files,
+        },
+        Err(_) => plain(alloc, 5, Message::NoRoom),
+    }
+}
+
+// The answer for a policy that is refused.
+fn answer_for_fault(alloc: Global, sources: &[Source], fault: Fault) -> Answer
+    requires { outcome_of (map source_pair sources.now) ≡ Err fault }
+    ensures { AnswersSources (map source_pair sources.now) result.status (bytes_of_message result.text) (map file_pair result.files) }
+{
+    match fault_line(alloc, sources, fault) {
+        Ok(line) => plain(alloc, 1, Message::Made(line)),
+        Err(_) => plain(alloc, 5, Message::NoRoom),
+    }
+}
+
+/// The answer for a policy that was read.
+pub fn answer_for_sources(alloc: Global, sources: &[Source]) -> Answer
+    ensures { AnswersSources (map source_pair sources.now) result.status (bytes_of_message result.text) (map file_pair result.files) }
+{
+    match compile(alloc, sources) {
+        Ok(compiled) => answer_for_compiled(alloc, sources, compiled),
+        Err(Refusal::Policy(fault)) => answer_for_fault(alloc, sources, fault),
+        Err(Refusal::Memory) => plain(alloc, 5, Message::NoRoom),
+    }
+}
+
+/// The answer where the policy could not be read.
+pub fn answer_for_fail(alloc: Global, fail: LoadFail) -> Answer
+    ensures { AnswersFail fail result.status (bytes_of_message result.text) (map file_pair result.files) }
+{
+    match fail {
+        LoadFail::Read => plain(alloc, 3, Message::ReadFault),
+        LoadFail::Memory => plain(alloc, 5, Message::NoRoom),
+        LoadFail::Large(path) => match too_large(alloc, path.bytes()) {
+            Ok(text) => plain(alloc, 9, Message::Made(text)),
+            Err(_) => plain(alloc, 5, Message::NoRoom),
+        },
+    }
+}

@@ -1,0 +1,123 @@
+ghost use Rattle.std.specs.Prelude.{◌≡◌, ◌≢◌, ◌⊎◌, ◌≤◌, ℕ, IfSome, map};
+ghost use Rattle.std.specs.Option.{ForSome};
+ghost use Rattle.std.specs.Str.{bytes_eq};
+ghost use Rattle.std.specs.List.{IsDistinct};
+ghost use Rattle.spoc_io.specs.Causes.{Rose, BothTold};
+ghost use Rattle.spoc_io.specs.Files.{paths, Grows, GrowsPart};
+ghost use Rattle.spoc_run.specs.Policy.{policy_of};
+ghost use Rattle.spoc_run.specs.Outcome.{is_compile, text_of};
+ghost use Rattle.compile_core.specs.Compiled.{file_pair};
+ghost use Rattle.spoc_run.specs.Answer.{bytes_of_message};
+ghost use Rattle.spoc_run.specs.Puts.{PutsAll, PutsSome};
+ghost use Rattle.spoc_run.specs.Caused.{IsCaused, InsteadOf, files_of};
+
+use crate::answer::{Answer, Message, answer_for_fail, answer_for_sources, plain};
+use crate::deliver::put_all;
+use crate::load::load;
+use spoc_base::Text;
+use spoc_io::{Folder, Target, TextOut};
+use std::alloc::Global;
+
+// Whether the words are `compile POLICY CODE`.
+fn is_compile(words: &[Text]) -> bool
+    ensures { result ≡ is_compile words.now }
+{
+    match words {
+        [form, policy, code] => {
+            form.bytes() == b"compile".as_slice() && !policy.bytes().is_empty() && !code.bytes().is_empty()
+        }
+        _ => false,
+    }
+}
+
+// What is to be done, before anything is written.
+fn decide<P: Folder>(alloc: Global, words: &[Text], policy: &mut P) -> Answer
+    ensures cause { IsCaused words.now (P.files policy.old) (P.faults policy.old) (P.faults policy.new) (P.larges policy.old) (P.larges policy.new) result.status }
+    ensures text { ForSome (text_of result.status (P.files policy.old)) (λ text. bytes_of_message result.text ≡ text) }
+    ensures files { result.status ≡ 0 → ForSome (P.files policy.old) (λ fs. map file_pair result.files ≡ files_of fs) }
+    ensures names { IsDistinct bytes_eq (paths (map file_pair result.files)) }
+    ensures same { P.files policy.new ≡ P.files policy.old }
+{
+    if !is_compile(words) {
+        return plain(alloc, 2, Message::Usage);
+    }
+    match load(alloc, policy) {
+        Ok(sources) => answer_for_sources(alloc, &sources),
+        Err(fail) => answer_for_fail(alloc, fail),
+    }
+}
+
+// Writes the text of a status.
+fn say<O: TextOut>(out: &mut O, status: u8, text: &[u8]) -> u8
+    requires { status ≢ 4 }
+    ensures which { result ≢ 4 → result ≡ status }
+    ensures cause { result ≡ 4 → Rose (O.faults out.old) (O.faults out.new) }
+    ensures later { O.faults out.old ≤ O.faults out.new }
+    ensures whole { result ≢ 4 → BothTold (Grows text.now) (O.text out.old) (O.text out.new) }
+    ensures part { result ≡ 4 → BothTold (GrowsPart text.now) (O.text out.old) (O.text out.new) }
+{
+    match out.write(text) {
+        Ok(()) => status,
+        Err(_) => 4,
+    }
+}
+
+#[tactic(auto, using(crate::proofs::Putting::told_all))]
+// Puts the device files, and writes the text of the status.
+fn deliver<C: Folder + Target, O: TextOut>(code: &mut C, out: &mut O, answer: &Answer) -> u8
+    requires status { answer.now.status ≢ 4 }
+    requires names { IsDistinct bytes_eq (paths (map file_pair answer.now.files)) }
+    ensures which { result ≢ 4 → result ≡ answer.now.status }
+    ensures cause { result ≡ 4 → Rose (C.Target.faults code.old) (C.Target.faults code.new) ⊎ Rose (O.faults out.old) (O.faults out.new) }
+    ensures untouched { answer.now.status ≢ 0 → code.new ≡ code.old }
+    ensures put { result ≡ 0 → BothTold (PutsAll (map file_pair answer.now.files)) (C.files code.old) (C.files code.new) }
+    ensures put_part { result ≡ 4 → answer.now.status ≡ 0 → BothTold (PutsSome (map file_pair answer.now.files)) (C.files code.old) (C.files code.new) }
+    ensures whole { result ≢ 4 → BothTold (Grows (bytes_of_message answer.now.text)) (O.text out.old) (O.text out.new) }
+    ensures part { result ≡ 4 → BothTold (GrowsPart (bytes_of_message answer.now.text)) (O.text out.old) (O.text out.new) }
+    ensures silent { result ≡ 4 → out.new ≡ out.old ⊎ Rose (O.faults out.old) (O.faults out.new) }
+{
+    if answer.status != 0 {
+        return say(out, answer.status, answer.text.bytes());
+    }
+    match put_all(code, answer.files.items()) {
+        Ok(()) => say(out, 0, answer.text.bytes()),
+        Err(_) => 4,
+    }
+}
+
+/// Does what the words say, and answers the status.
+pub fn run<P: Folder, C: Folder + Target, O: TextOut>(
+    alloc: Global,
+    words: &[Text],
+    policy: &mut P,
+    code: &mut C,
+    out: &mut O,
+) -> u8
+    // Each status but 4 comes only where the words, the counts and the policy's files allow it.
+    ensures cause { result ≢ 4 → IsCaused words.now (P.files policy.old) (P.faults policy.old) (P.faults policy.new) (P.larges policy.old) (P.larges policy.new) result }
+
+    // 4 comes only where a write failed.
+    ensures write { result ≡ 4 → Rose (C.Target.faults code.old) (C.Target.faults code.new) ⊎ Rose (O.faults out.old) (O.faults out.new) }
+
+    // After 0 the target holds the device files, and else what it held.
+    ensures put { result ≡ 0 → ForSome (P.files policy.old) (λ fs. BothTold (PutsAll (files_of fs)) (C.files code.old) (C.files code.new)) }
+
+    // After 4 it holds some first ones, the next one perhaps in part.
+    ensures put_part { result ≡ 4 → ForSome (P.files policy.old) (λ fs. BothTold (PutsSome (files_of fs)) (C.files code.old) (C.files code.new)) }
+
+    // After any other status it is as before.
+    ensures untouched { result ≢ 0 → result ≢ 4 → code.new ≡ code.old }
+
+    // The text of the status was written, and nothing else.
+    ensures text { result ≢ 4 → ForSome (text_of result (P.files policy.old)) (λ text. BothTold (Grows text) (O.text out.old) (O.text out.new)) }
+
+    // After 4 a first part of the text of the status in whose place it stands, and nothing where a file was not put.
+    ensures text_part { result ≡ 4 → InsteadOf (IsCaused words.now (P.files policy.old) (P.faults policy.old) (P.faults policy.new) (P.larges policy.old) (P.larges policy.new)) (P.files policy.old) (O.text out.old) (O.text out.new) }
+    ensures silent { result ≡ 4 → out.new ≡ out.old ⊎ Rose (O.faults out.old) (O.faults out.new) }
+
+    // The policy's folder is as before.
+    ensures same { P.files policy.new ≡ P.files policy.old }
+{
+    let answer = decide(alloc, words, policy);
+    deliver(code, out, &answer)
+}
