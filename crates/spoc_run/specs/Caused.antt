@@ -1,5 +1,5 @@
 -- Where a status may come.
-use Rattle.std.specs.Prelude.{◌≡◌, ◌⊎◌, ℕ, Bool, true, false, ◌==◌, ◌||◌, IsTrue, IsSome, List, Option, None}
+use Rattle.std.specs.Prelude.{◌≡◌, ◌⊎◌, ℕ, Bool, true, false, ◌==◌, ◌||◌, IsTrue, IsSome, List, Option, None, if◌then◌else◌}
 use Rattle.std.specs.Option.{ForSome}
 use Rattle.spoc_io.specs.Causes.{Rose, BothTold}
 use Rattle.spoc_io.specs.Files.{Files, GrowsPart}
@@ -35,3 +35,17 @@ InsteadOf Caused files before after = (status : ℕ) × Caused status × ForSome
 -- the device files of a policy folder
 abbrev pub files_of : Files → Files
 files_of files = device_files (outcome_of (policy_of files))
+
+-- no count of failed calls rose: of reads, of puts and of writes
+pub record NothingFailed (reads reads' puts puts' writes writes' : ℕ) : Type 0 where
+  pub read : Rose reads reads' → ⊥
+  pub put : Rose puts puts' → ⊥
+  pub write : Rose writes writes' → ⊥
+
+-- one of two statuses
+abbrev pub is_either : ℕ → ℕ → ℕ → Bool
+is_either first second status = status == first || status == second
+
+-- The status of a policy that was read: done or refused as it says, or want of memory.
+abbrev pub IsSettled : Files → ℕ → Type 0
+IsSettled sources status = first_large most_of_all sources ≡ None → IsTrue (is_either (if is_accepted (outcome_of sources) then 0 else 1) 5 status)

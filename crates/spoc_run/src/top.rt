@@ -1,4 +1,4 @@
-ghost use Rattle.std.specs.Prelude.{◌≡◌, ◌≢◌, ◌⊎◌, ◌≤◌, ℕ, IfSome, map};
+ghost use Rattle.std.specs.Prelude.{◌==◌, ◌||◌, IsTrue, true, ◌≡◌, ◌≢◌, ◌⊎◌, ◌≤◌, ℕ, IfSome, map};
 ghost use Rattle.std.specs.Option.{ForSome};
 ghost use Rattle.std.specs.Str.{bytes_eq};
 ghost use Rattle.std.specs.List.{IsDistinct};
@@ -9,7 +9,7 @@ ghost use Rattle.spoc_run.specs.Outcome.{is_compile, text_of};
 ghost use Rattle.compile_core.specs.Compiled.{file_pair};
 ghost use Rattle.spoc_run.specs.Answer.{bytes_of_message};
 ghost use Rattle.spoc_run.specs.Puts.{PutsAll, PutsSome};
-ghost use Rattle.spoc_run.specs.Caused.{IsCaused, InsteadOf, files_of};
+ghost use Rattle.spoc_run.specs.Caused.{IsCaused, InsteadOf, NothingFailed, IsSettled, is_either, files_of};
 
 use crate::answer::{Answer, Message, answer_for_fail, answer_for_sources, plain};
 use crate::deliver::put_all;
@@ -85,7 +85,18 @@ fn deliver<C: Folder + Target, O: TextOut>(code: &mut C, out: &mut O, answer: &A
     }
 }
 
-/// Does what the words say, and answers the status.
+/// Does what the words say, and answers the status that the program ends with. The words are those
+/// after the program's name, and the one form is `compile POLICY CODE`.
+///
+/// | status | comes | text on `out` |
+/// |---|---|---|
+/// | 0 | the policy is accepted: the target holds the file of each managed router | the summary |
+/// | 1 | the policy has a fault | `fault` and what it is |
+/// | 2 | the words match no form | `usage` |
+/// | 3 | the policy folder failed to be read | `read fault` |
+/// | 4 | a file or the text failed to be written | a first part of the text of the status in whose place it stands |
+/// | 5 | memory ran out | `memory` |
+/// | 9 | a policy file has more than 4 MiB, or all together have more than 64 MiB | `too large` and the path |
 pub fn run<P: Folder, C: Folder + Target, O: TextOut>(
     alloc: Global,
     words: &[Text],
@@ -114,6 +125,12 @@ pub fn run<P: Folder, C: Folder + Target, O: TextOut>(
     // After 4 a first part of the text of the status in whose place it stands, and nothing where a file was not put.
     ensures text_part { result ≡ 4 → InsteadOf (IsCaused words.now (P.files policy.old) (P.faults policy.old) (P.faults policy.new) (P.larges policy.old) (P.larges policy.new)) (P.files policy.old) (O.text out.old) (O.text out.new) }
     ensures silent { result ≡ 4 → out.new ≡ out.old ⊎ Rose (O.faults out.old) (O.faults out.new) }
+
+    // Where the words match and nothing fails, a policy within the limits is compiled or refused, as it says, unless memory runs out.
+    ensures settled { is_compile words.now ≡ true → NothingFailed (P.faults policy.old) (P.faults policy.new) (C.Target.faults code.old) (C.Target.faults code.new) (O.faults out.old) (O.faults out.new) → ForSome (P.files policy.old) (λ fs. IsSettled (policy_of fs) result) }
+
+    // So it is over a folder that tells no content, where no file was found too large.
+    ensures answered { is_compile words.now ≡ true → NothingFailed (P.faults policy.old) (P.faults policy.new) (C.Target.faults code.old) (C.Target.faults code.new) (O.faults out.old) (O.faults out.new) → (Rose (P.larges policy.old) (P.larges policy.new) → ⊥) → IsTrue (result == 0 || is_either 1 5 result) }
 
     // The policy's folder is as before.
     ensures same { P.files policy.new ≡ P.files policy.old }
