@@ -68,9 +68,9 @@ policy_is files ks h is =
     let s = finite.from_entries {R = slice_cmp nat_cmp} (filter (λ f. is_policy_path f.0) files) in
     let own = finite.entries-from_sorted (slice_cmp nat_cmp) (with_bytes files ks) (sorted files ks h) in
     let one : t ≡ s = finite.same_map nat_list_cmp_total (finite.slice_cmp-IsAntisymmetric finite.nat_cmp-IsAntisymmetric) t s (λ q.
-        finite.get-from_sorted (slice_cmp nat_cmp) (with_bytes files ks) q (sorted files ks h)
-        ∙ found files ks q ∙ rw (is q) (by_cases (is_policy_path q) (bytes_at files q))
-        ∙ sym (finite.get-from_entries nat_list_cmp_total (filter (λ f. is_policy_path f.0) files) q ∙ kept files q)) in
+    finite.get-from_sorted (slice_cmp nat_cmp) (with_bytes files ks) q (sorted files ks h)
+    ∙ found files ks q ∙ rw (is q) (by_cases (is_policy_path q) (bytes_at files q))
+    ∙ sym (finite.get-from_entries nat_list_cmp_total (filter (λ f. is_policy_path f.0) files) q ∙ kept files q)) in
     sym own ∙ ap finite.entries one
 
 any_same : (q : List ℕ) (ks : List (List ℕ)) → list_any (is_at (slice_cmp nat_cmp q)) ks ≡ list_any (bytes_eq q) ks

@@ -12,3 +12,6 @@ mod texts;
 mod top;
 
 pub use top::run;
+
+#[cfg(test)]
+mod tests;

@@ -60,7 +60,8 @@ fn is_skipped_part(part: &[u8]) -> bool
 fn has_skipped_part(path: &[u8]) -> bool
     ensures { result ≡ list_any is_skipped_part (slice_split (λ byte. byte == 47) path.now) }
 {
-    path.split(|byte| *byte == b'/').any(|part| is_skipped_part(part))
+    path.split(|byte| *byte == b'/')
+        .any(|part| is_skipped_part(part))
 }
 
 // Whether the path is `config` or begins with `raw/`.

@@ -41,7 +41,11 @@ fn part_of(text: &[u8], start: usize, end: usize) -> &[u8]
 fn text_at(sources: &[Source], span: Span) -> &[u8]
     ensures { result.now ≡ text_at (map source_pair sources.now) span }
 {
-    part_of(bytes_at(sources, span.file), span.start as usize, span.end as usize)
+    part_of(
+        bytes_at(sources, span.file),
+        span.start as usize,
+        span.end as usize,
+    )
 }
 
 // Adds a fault's word and its place.

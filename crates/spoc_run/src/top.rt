@@ -24,7 +24,9 @@ fn is_compile(words: &[Text]) -> bool
 {
     match words {
         [form, policy, code] => {
-            form.bytes() == b"compile".as_slice() && !policy.bytes().is_empty() && !code.bytes().is_empty()
+            form.bytes() == b"compile".as_slice()
+                && !policy.bytes().is_empty()
+                && !code.bytes().is_empty()
         }
         _ => false,
     }
