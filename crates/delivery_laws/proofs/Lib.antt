@@ -1,0 +1,5 @@
+pub mod Ways
+pub mod Turns
+pub mod Ends
+pub mod Refused
+pub mod Arrived
