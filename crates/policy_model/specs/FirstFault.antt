@@ -1,10 +1,10 @@
 -- Which fault of a policy counts, from a split area to an ambiguous hop: each row of faults in its place, and of several cases of one row that of the least
 -- values.
-use Rattle.std.specs.Prelude.{◌≡◌, ℕ, suc, ◌+◌, ◌<◌, Bool, true, false, not, ◌&&◌, ◌||◌, ◌==◌, nat_lt, if◌then◌else◌, List, [], ◌∷◌, ◌++◌, length, map, filter, sum, Option, Some, None, is_some, slice_index_or, IsTrue}
+use Rattle.std.specs.Prelude.{◌≡◌, ℕ, suc, ◌<◌, Bool, true, false, not, ◌&&◌, ◌||◌, ◌==◌, nat_lt, if◌then◌else◌, List, [], ◌∷◌, ◌++◌, length, map, filter, sum, Option, Some, None, is_some, slice_index_or, IsTrue}
 use Rattle.std.specs.List.{list_any}
 use Rattle.policy_model.specs.Lists.{pairs_of}
 use Rattle.policy_model.specs.Policy.{Policy, Service, NoObjects, host_of, iface_of, net_at, router_at, is_managed, all_nets, all_routers, all_ifaces}
-use Rattle.policy_model.specs.Zones.{Site, zone_of, zone_count}
+use Rattle.policy_model.specs.Zones.{Site, zone_count}
 use Rattle.policy_model.specs.Tags.{Views, zone_view, router_view}
 use Rattle.policy_model.specs.Permits.{Permit, one_address}
 use Rattle.policy_model.specs.Blocks.{list_at, permit_at}
