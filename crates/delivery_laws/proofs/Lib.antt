@@ -3,3 +3,5 @@ pub mod Turns
 pub mod Ends
 pub mod Refused
 pub mod Arrived
+pub mod AcceptedByTest
+pub mod SmallSiteWhole
