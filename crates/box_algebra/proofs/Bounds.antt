@@ -1,12 +1,11 @@
 -- What is left of sets of transports is proper, and there are few pieces.
-use Rattle.std.proofs.Common.{◌≡◌, ◌≢◌, ℕ, ◌+◌, ◌<◌, ◌≤◌, Bool, true, false, cond, List, [], ◌∷◌, length, map, refl, sym, ap, subst, ◌∙◌, ⊎_elim, arith}
+use Rattle.std.proofs.Common.{◌≡◌, ◌≢◌, ℕ, ◌+◌, ◌<◌, ◌≤◌, Bool, true, false, cond, List, [], ◌∷◌, length, map, refl, ap, ◌∙◌, arith}
 use Rattle.std.specs.Prelude.{Option, Some, None, ◌==◌, flat_map}
 use Rattle.std.proofs.lemmas.List.{length-map}
 use Rattle.std.proofs.lemmas.Bool.{and_parts, and_from, eqb-true, eq-eqb, both_ways, cond-true, false_from_ne_true}
 use Rattle.spoc_base.specs.Address.{Interval, interval_meets}
 use Rattle.spoc_base.specs.Boxes.{TransportBox, AnyTransport, TcpPorts, UdpPorts, IcmpTypes, ProtocolNumber, all_ports, IsOtherProtocol, box_covers, box_meets}
 use Rattle.list_laws.specs.Lines.{IsBox, IsPorts, IsByteAsked}
-use Rattle.box_algebra.specs.HeaderBoxes.{IsProperSet, IsUnmarked}
 use Rattle.box_algebra.specs.Pieces.{pairs_left, all_bytes, all_protocols, other_code, codes_left, kind_left, types_left, protocol_left, protocol_of, whole_protocol, whole_left, some_left, transports_left}
 use Rattle.box_algebra.proofs.Counting.{total, length-flat_map, total_most, Each, each-map, each_of_range}
 use Rattle.box_algebra.proofs.Sides.{IsPart, ArePair, pairs_are, pairs_few}
@@ -49,8 +48,8 @@ kinds_few : (k : ℕ) (c : Option ℕ) → k < 256 → IsByteAsked c → length 
 kinds_few k c below h =
     let e = length-flat_map (kind_left k c) all_bytes in
     let f = bytes_most (λ n. length (kind_left k c n)) k 255 below
-        (λ m ne. otherwise_one (m == k) (codes_left m c) (IcmpTypes (Some m) None) (false_from_ne_true (m == k) (λ t. ne (eqb-true m k t))))
-        (choice_few (k == k) (codes_left k c) (IcmpTypes (Some k) None) 255 (codes_few k c h) (omega arith)) in
+    (λ m ne. otherwise_one (m == k) (codes_left m c) (IcmpTypes (Some m) None) (false_from_ne_true (m == k) (λ t. ne (eqb-true m k t))))
+    (choice_few (k == k) (codes_left k c) (IcmpTypes (Some k) None) 255 (codes_few k c h) (omega arith)) in
     omega (arith, e, f)
 
 types_few : (kind k c : Option ℕ) → IsByteAsked k → IsByteAsked c → length (types_left kind k c) ≤ 510
@@ -81,8 +80,8 @@ protocols_few b h some =
     let k = protocol_of b in
     let w = own_number b h some in
     let f = protocols_most (λ n. length (whole_left b n)) k 510 w.0 w.1
-        (λ m ne. otherwise_one (m == k) (protocol_left (whole_protocol m) b) (whole_protocol m) (false_from_ne_true (m == k) (λ t. ne (eqb-true m k t))))
-        (choice_few (k == k) (protocol_left (whole_protocol k) b) (whole_protocol k) 510 (protocol_few (whole_protocol k) b h) (omega arith)) in
+    (λ m ne. otherwise_one (m == k) (protocol_left (whole_protocol m) b) (whole_protocol m) (false_from_ne_true (m == k) (λ t. ne (eqb-true m k t))))
+    (choice_few (k == k) (protocol_left (whole_protocol k) b) (whole_protocol k) 510 (protocol_few (whole_protocol k) b h) (omega arith)) in
     omega (arith, e, f)
 
 pub transports_few : (a b : TransportBox) → IsBox b → length (transports_left a b) ≤ 764
@@ -164,7 +163,7 @@ whole_good n low high = go (n == 1) (n == 6) (n == 17) refl refl refl
     go false false true e f g = record { box = (all_ports_proper, all_ports_proper); set = tt; unmarked = tt }
     go false false false e f g =
         let other : IsOtherProtocol n =
-            (high, (λ z. let y : ⊥ = omega arith in y), (λ z. both_ways (n == 1) e (eq-eqb n 1 z)), (λ z. both_ways (n == 6) f (eq-eqb n 6 z)), (λ z. both_ways (n == 17) g (eq-eqb n 17 z))) in
+        (high, (λ z. let y : ⊥ = omega arith in y), (λ z. both_ways (n == 1) e (eq-eqb n 1 z)), (λ z. both_ways (n == 6) f (eq-eqb n 6 z)), (λ z. both_ways (n == 17) g (eq-eqb n 17 z))) in
         record { box = other; set = other; unmarked = tt }
 
 own_meets : (b : TransportBox) → IsBox b → protocol_of b ≢ 0 → box_meets (whole_protocol (protocol_of b)) b ≡ true

@@ -1,5 +1,5 @@
 -- The loop that takes the largest block at the beginning of what is left of a range.
-use Rattle.std.proofs.Common.{◌≡◌, ℕ, suc, ◌+◌, ◌%◌, ◌^◌, ◌<◌, ◌≤◌, List, [], ◌∷◌, ◌++◌, append_assoc, append-nil, map, refl, sym, ap, subst, ◌∙◌, arith}
+use Rattle.std.proofs.Common.{◌≡◌, ℕ, suc, ◌+◌, ◌%◌, ◌^◌, ◌≤◌, List, [], ◌∷◌, ◌++◌, append_assoc, append-nil, map, sym, ap, subst, ◌∙◌, arith}
 use Rattle.spoc_base.specs.Address.{Cidr, Interval, block_at, cover_of}
 use Rattle.std.proofs.lemmas.List.{map-append}
 use Rattle.spoc_base.specs.Shown.{cidr_of}

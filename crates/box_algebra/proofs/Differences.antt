@@ -1,11 +1,11 @@
 -- The pieces of a difference hold each header of it once, and no other.
-use Rattle.std.proofs.Common.{◌≡◌, ℕ, ◌+◌, ◌≤◌, Bool, true, false, not, cond, ◌&&◌, List, [], ◌∷◌, ◌++◌, length, length-append, map, refl, sym, ap, ◌∙◌, arith}
-use Rattle.std.specs.List.{All, AllPairs}
+use Rattle.std.proofs.Common.{◌≡◌, ◌+◌, ◌≤◌, Bool, true, false, not, cond, ◌&&◌, List, [], ◌∷◌, length, length-append, map, refl, ap, ◌∙◌, arith}
+use Rattle.std.specs.List.{AllPairs}
 use Rattle.std.proofs.lemmas.List.{length-map}
 use Rattle.std.proofs.lemmas.List.Kept.{AllPairs-cons}
 use Rattle.std.proofs.lemmas.Bool.{and_parts, both_ways, false_from_ne_true}
 use Rattle.spoc_base.specs.Address.{Interval, within, interval_meets}
-use Rattle.spoc_base.specs.Boxes.{TransportBox, box_holds, box_meets}
+use Rattle.spoc_base.specs.Boxes.{box_holds, box_meets}
 use Rattle.policy_model.specs.Packets.{Header}
 use Rattle.list_laws.proofs.Ranges.{all_from}
 use Rattle.box_algebra.specs.HeaderBoxes.{HeaderBox, IsHeader, IsAddressRange, IsHeaderBox, IsUnmarked, header_box_holds, header_box_meets}
@@ -34,18 +34,18 @@ pieces_times a b h proper ha hb ua ub m =
     let both = λ (p : Interval × Interval). within p.0 h.src && within p.1 h.dst in
     let middle = within (common a.src b.src) h.src && within (common a.dst b.dst) h.dst in
     let sides : times holds (sides_left a b) ≡ cond t (bit (in_a && not in_b)) 0 =
-        times-map holds (λ p. box_between p.0 p.1 a.transport) pairs
-        ∙ (times_and both t pairs ∙ ap (λ n. cond t n 0) (pairs_times a.src a.dst b.src b.dst h.src h.dst hb.src.ordered hb.dst.ordered v.0 v.1)) in
+    times-map holds (λ p. box_between p.0 p.1 a.transport) pairs
+    ∙ (times_and both t pairs ∙ ap (λ n. cond t n 0) (pairs_times a.src a.dst b.src b.dst h.src h.dst hb.src.ordered hb.dst.ordered v.0 v.1)) in
     let shared : middle ≡ (in_a && in_b) =
-        ap (λ c. c && within (common a.dst b.dst) h.dst) (within_common a.src b.src h.src)
-        ∙ (ap (λ c. (within a.src h.src && within b.src h.src) && c) (within_common a.dst b.dst h.dst)
-        ∙ regroup (within a.src h.src) (within b.src h.src) (within a.dst h.dst) (within b.dst h.dst)) in
+    ap (λ c. c && within (common a.dst b.dst) h.dst) (within_common a.src b.src h.src)
+    ∙ (ap (λ c. (within a.src h.src && within b.src h.src) && c) (within_common a.dst b.dst h.dst)
+    ∙ regroup (within a.src h.src) (within b.src h.src) (within a.dst h.dst) (within b.dst h.dst)) in
     let rest : times holds back ≡ cond (in_a && in_b) (bit (t && not u)) 0 =
-        times-map holds (box_between (common a.src b.src) (common a.dst b.dst)) left
-        ∙ (times_and_before (λ x. box_holds x h.transport) middle left
-        ∙ (ap (λ c. cond c (times (λ x. box_holds x h.transport) left) 0) shared
-        ∙ ap (λ n. cond (in_a && in_b) n 0) (transports_times a.transport b.transport h.transport proper.transport
-        (record { box = ha.transport; set = ha.set; unmarked = ua }) (record { box = hb.transport; set = hb.set; unmarked = ub }) w.1))) in
+    times-map holds (box_between (common a.src b.src) (common a.dst b.dst)) left
+    ∙ (times_and_before (λ x. box_holds x h.transport) middle left
+    ∙ (ap (λ c. cond c (times (λ x. box_holds x h.transport) left) 0) shared
+    ∙ ap (λ n. cond (in_a && in_b) n 0) (transports_times a.transport b.transport h.transport proper.transport
+    (record { box = ha.transport; set = ha.set; unmarked = ua }) (record { box = hb.transport; set = hb.set; unmarked = ub }) w.1))) in
     times-append holds (sides_left a b) back
     ∙ (ap (λ n. n + times holds back) sides ∙ (ap (λ n. cond t (bit (in_a && not in_b)) 0 + n) rest ∙ product in_a in_b t u))
 

@@ -8,7 +8,7 @@ use Rattle.spoc_base.specs.declared.transport.Transport.{Transport}
 use Rattle.policy_model.specs.Packets.{Header}
 use Rattle.list_laws.proofs.Sets.{in_parts, in_from, covers_from, covered_within, covered_holds, meets_from, both_hold}
 use Rattle.list_laws.proofs.ExactSets.{some_held, covers_all_held, met_held}
-use Rattle.box_algebra.specs.HeaderBoxes.{HeaderBox, header_box_holds, header_box_covers, header_box_meets, IsHeader, IsAddressRange, IsHeaderBox, HoldsAll, HoldBoth}
+use Rattle.box_algebra.specs.HeaderBoxes.{HeaderBox, header_box_holds, header_box_covers, header_box_meets, IsAddressRange, IsHeaderBox, HoldsAll, HoldBoth}
 
 pub record Parts (b : HeaderBox) (h : Header) : Type 0 where
   pub src : within b.src h.src ≡ true
@@ -59,7 +59,7 @@ module _ (a b : HeaderBox) (proper : IsHeaderBox b) (all : HoldsAll a b) where
       let src = covers_from a.src b.src (in_parts a.src b.src.first low.src).low (in_parts a.src b.src.last high.src).high in
       let dst = covers_from a.dst b.dst (in_parts a.dst b.dst.first low.dst).low (in_parts a.dst b.dst.last high.dst).high in
       let transport = covers_all_held a.transport b.transport proper.transport
-          (λ t ts ht. (at b.src.first b.dst.first t (first_small b.src ps) (first_small b.dst pd) ts (first_in b.src ps) (first_in b.dst pd) ht).transport) in
+      (λ t ts ht. (at b.src.first b.dst.first t (first_small b.src ps) (first_small b.dst pd) ts (first_in b.src ps) (first_in b.dst pd) ht).transport) in
       and_from (interval_covers a.src b.src && interval_covers a.dst b.dst) (box_covers a.transport b.transport)
       (and_from (interval_covers a.src b.src) (interval_covers a.dst b.dst) src dst) transport
 

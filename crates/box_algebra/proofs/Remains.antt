@@ -1,12 +1,12 @@
 -- What is left of sets of transports holds each transport of the difference once.
-use Rattle.std.proofs.Common.{◌≡◌, ◌≢◌, ℕ, ◌+◌, ◌^◌, ◌<◌, ◌≤◌, ◌⊎◌, inl, inr, Bool, true, false, not, cond, ◌&&◌, ◌||◌, List, [], ◌∷◌, ◌++◌, length, map, refl, sym, ap, subst, ◌∙◌, ⊎_elim, arith}
+use Rattle.std.proofs.Common.{◌≡◌, ◌≢◌, ℕ, ◌^◌, ◌<◌, ◌≤◌, Bool, true, false, not, cond, ◌&&◌, ◌||◌, List, [], ◌∷◌, map, refl, sym, ap, ◌∙◌, arith}
 use Rattle.std.specs.Prelude.{Option, Some, None, ◌==◌, flat_map}
-use Rattle.std.proofs.lemmas.Bool.{and_parts, and_from, cases_Bool, cases_eq, eqb-true, eq-eqb, both_ways, false≢true, false_from_ne_true}
-use Rattle.spoc_base.specs.Address.{Interval, within, interval_covers, interval_meets}
+use Rattle.std.proofs.lemmas.Bool.{and_parts, and_from, eqb-true, eq-eqb, both_ways, false≢true, false_from_ne_true}
+use Rattle.spoc_base.specs.Address.{Interval, within, interval_meets}
 use Rattle.spoc_base.specs.Boxes.{TransportBox, AnyTransport, TcpPorts, UdpPorts, IcmpTypes, ProtocolNumber, all_ports, IsTransport, IsOtherProtocol, asks, asks_no_more, agree, box_holds, box_covers, box_meets}
 use Rattle.spoc_base.specs.declared.transport.Transport.{Transport}
 use Rattle.spoc_base.specs.declared.transport.Transport.TheVariants.{Tcp, Udp, Icmp, Other}
-use Rattle.list_laws.specs.Lines.{IsBox, IsPorts, IsByteAsked}
+use Rattle.list_laws.specs.Lines.{IsBox, IsPorts}
 use Rattle.list_laws.proofs.Members.{same_truth}
 use Rattle.list_laws.proofs.Sets.{in_from, covered_holds, meets_from}
 use Rattle.box_algebra.specs.HeaderBoxes.{IsProperSet, IsUnmarked}

@@ -1,5 +1,5 @@
 -- Boxes of headers: the sources of one range, the destinations of another, and a set of transports.
-use Rattle.std.specs.Prelude.{◌≡◌, ◌<◌, ◌≤◌, ℕ, Bool, false, ◌&&◌, Option, Some, None, IsTrue}
+use Rattle.std.specs.Prelude.{◌≡◌, ◌<◌, ◌≤◌, Bool, false, ◌&&◌, Some, None, IsTrue}
 use Rattle.spoc_base.specs.Address.{Interval, within, interval_covers, interval_meets}
 use Rattle.spoc_base.specs.Boxes.{TransportBox, AnyTransport, TcpPorts, UdpPorts, IcmpTypes, ProtocolNumber, IsTransport, IsOtherProtocol, box_holds, box_covers, box_meets}
 use Rattle.policy_model.specs.Packets.{Header}

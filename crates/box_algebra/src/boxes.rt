@@ -127,12 +127,8 @@ fn transport_meets(a: TBox, b: TBox) -> bool
     match (a, b) {
         (TBox::Any, _) => true,
         (_, TBox::Any) => true,
-        (
-            TBox::Tcp { src, dst, .. },
-            TBox::Tcp {
-                src: s, dst: d, ..
-            },
-        ) => ports_meet(src, s) && ports_meet(dst, d),
+        (TBox::Tcp { src, dst, .. }, TBox::Tcp { src: s, dst: d, .. }) => ports_meet(src, s)
+            && ports_meet(dst, d),
         (TBox::Udp { src, dst }, TBox::Udp { src: s, dst: d }) => {
             ports_meet(src, s) && ports_meet(dst, d)
         }

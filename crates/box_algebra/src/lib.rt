@@ -4,7 +4,6 @@
 mod boxes;
 mod cover;
 mod pieces;
-
 #[cfg(test)]
 mod tests;
 

@@ -119,7 +119,12 @@ fn push_kinds(left: &mut Vec<TBox>, kind: u8, code: Option<u8>) -> Result<(), No
 }
 
 /// Puts what is left of ICMP behind the others, by the types of both and the code of the second.
-fn push_types(left: &mut Vec<TBox>, kind: Option<u8>, k: Option<u8>, code: Option<u8>) -> Result<(), NoMemory>
+fn push_types(
+    left: &mut Vec<TBox>,
+    kind: Option<u8>,
+    k: Option<u8>,
+    code: Option<u8>,
+) -> Result<(), NoMemory>
     ensures { OnOk result (map box_of left.new.items ≡ map box_of left.old.items ++ types_left kind k code) }
 {
     match (kind, k) {
@@ -336,7 +341,12 @@ fn push_sides(pieces: &mut Vec<Box4>, a: &Box4, b: &Box4) -> Result<(), NoMemory
 }
 
 /// Puts a piece for each set of transports behind the others.
-fn push_each(pieces: &mut Vec<Box4>, src: AddrRange, dst: AddrRange, left: &[TBox]) -> Result<(), NoMemory>
+fn push_each(
+    pieces: &mut Vec<Box4>,
+    src: AddrRange,
+    dst: AddrRange,
+    left: &[TBox],
+) -> Result<(), NoMemory>
     ensures { OnOk result (map header_box_of pieces.new.items ≡ map header_box_of pieces.old.items ++ map (box_between (interval_of src) (interval_of dst)) (map box_of left.now)) }
 {
     for t in left {

@@ -8,7 +8,7 @@ pub loop-low-preserved : goal.loop-low-preserved
 loop-low-preserved c =
     let i = c.loop-low.invariant in
     let w = next c.loop-low.low c.args.r.hi.0 (c.from-end.result + 1) c.largest_block-bits.result c.size-low.result c.loop-low.cover.items c.block.result c.push.new.self.items
-        (cover_of (interval_of c.args.r)) i.0 i.1 c.largest_block-bits.ensures c.size-low.ensures.value (c.in_ok-push.ensures {u = tt}).items c.block.ensures i.3 in
+    (cover_of (interval_of c.args.r)) i.0 i.1 c.largest_block-bits.ensures c.size-low.ensures.value (c.in_ok-push.ensures {u = tt}).items c.block.ensures i.3 in
     (i.0, i.1, w.0, w.1)
 
 pub returns-clause-cover : goal.returns-clause-cover
