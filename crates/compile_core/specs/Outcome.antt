@@ -2,7 +2,6 @@ use Rattle.std.specs.Prelude.{ℕ, List, [], ◌∷◌, ◌++◌, Result, Ok, Er
 use Rattle.std.specs.Fmt.{decimal}
 use Rattle.spoc_base.specs.declared.fault.Fault.{Fault}
 use Rattle.spoc_base.specs.declared.fault.Fault.TheVariants as fault
-use Rattle.compile_core.specs.declared.Summary.{Summary}
 
 pub record Counts : Type 0 where
   pub networks : ℕ
@@ -24,8 +23,5 @@ abbrev pub outcome_of : List (List ℕ × List ℕ) → Result Written Fault
 outcome_of [] = Err fault.Form
 outcome_of (s ∷ ss) = Ok (record { files = []; counts = nothing })
 
-abbrev pub summary_lines : Counts → List ℕ
-summary_lines c = codes "networks " ++ decimal c.networks ++ codes "\n"
-
-abbrev pub counts_of : Summary → Counts
-counts_of s = record { networks = s.networks; zones = s.zones; routers = s.routers; permits = s.permits; local = s.local; lines = s.lines; routes = s.routes }
+abbrev pub summary_text : Counts → List ℕ
+summary_text c = codes "networks " ++ decimal c.networks ++ codes "\n"

@@ -7,7 +7,7 @@ use Rattle.std.specs.Option.{unwrap_or}
 use Rattle.spoc_io.specs.Files.{Files, bytes_at}
 use Rattle.spoc_base.specs.declared.place.Source.{Source}
 use Rattle.spoc_run.specs.Policy.{with_bytes, first_large, most_of_one, most_of_all}
-use Rattle.compile_core.specs.Compiled.{source_pair}
+use Rattle.compile_core.specs.Answer.{pair_of}
 use Rattle.spoc_run.specs.Sources.{ReadsOn, IsLargeOf}
 use Rattle.spoc_run.specs.declared.load.LoadFail.{LoadFail}
 use Rattle.spoc_run.specs.declared.load.LoadFail.TheVariants.{Read, Large, Memory}
@@ -17,11 +17,11 @@ pub reads_on : (files : Files) (all : List (List ℕ)) (path : List ℕ) (rest n
 reads_on files all path rest now sources source left e p t small h =
     let here : unwrap_or (bytes_at files path) [] ≡ source.text = rw t refl in
     let split : with_bytes files rest ≡ (path, source.text) ∷ with_bytes files now = rw (e, here) refl in
-    let one : source_pair source ≡ (path, source.text) = rw p refl in
+    let one : pair_of source ≡ (path, source.text) = rw p refl in
     let fits : nat_lt (min most_of_one left) (length source.text) ≡ false = grind arith in
     let opened : first_large left ((path, source.text) ∷ with_bytes files now) ≡ first_large (left - length source.text) (with_bytes files now) = ap (λ b. cond b (Some path) (first_large (left - length source.text) (with_bytes files now))) fits in
     record {
-      read = rw (map-append, one) (append_assoc (map source_pair sources) ((path, source.text) ∷ []) (with_bytes files now) ∙ rw (← split) h.read);
+      read = rw (map-append, one) (append_assoc (map pair_of sources) ((path, source.text) ∷ []) (with_bytes files now) ∙ rw (← split) h.read);
       large = sym opened ∙ (rw split at h.large);
       there = All-tail (λ path. IsSome (bytes_at files path)) path now (rw e at h.there);
     }

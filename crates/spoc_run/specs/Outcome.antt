@@ -4,7 +4,7 @@ use Rattle.std.specs.Option.{option_map, option_and_then}
 use Rattle.std.specs.Str.{bytes_eq}
 use Rattle.spoc_base.specs.declared.fault.Fault.{Fault}
 use Rattle.spoc_io.specs.Files.{Files}
-use Rattle.compile_core.specs.Outcome.{Written, outcome_of, summary_lines}
+use Rattle.compile_core.specs.Outcome.{Written, outcome_of, summary_text}
 use Rattle.spoc_run.specs.Policy.{policy_of, first_large, most_of_all}
 use Rattle.spoc_run.specs.Texts.{fault_line}
 
@@ -25,7 +25,7 @@ device_files (Err fault) = []
 
 -- the summary of a policy that is accepted
 abbrev pub summary_of : Result Written Fault → Option (List ℕ)
-summary_of (Ok written) = Some (summary_lines written.counts)
+summary_of (Ok written) = Some (summary_text written.counts)
 summary_of (Err fault) = None
 
 -- the line of a policy that is refused

@@ -2,7 +2,7 @@
 use Rattle.std.specs.Prelude.{◌≡◌, ◌≤◌, ◌++◌, ℕ, List, Result, IfErr, IsErrOf, IsSome, All, map}
 use Rattle.spoc_io.specs.Files.{Files, bytes_at}
 use Rattle.spoc_io.specs.Causes.{Rose}
-use Rattle.compile_core.specs.Compiled.{source_pair}
+use Rattle.compile_core.specs.Answer.{pair_of}
 use Rattle.spoc_base.specs.declared.place.Source.{Source}
 use Rattle.spoc_run.specs.Policy.{with_bytes, first_large, most_of_all}
 use Rattle.spoc_run.specs.declared.load.LoadFail.{LoadFail}
@@ -23,6 +23,6 @@ pub record HasLoadCause {T : Type 0} (faults faults' larges larges' : ℕ) (resu
 
 -- so far these files were read, and these paths and so many bytes are left
 pub record ReadsOn (files : Files) (all rest : List (List ℕ)) (sources : List Source) (left : ℕ) : Type 0 where
-  pub read : map source_pair sources ++ with_bytes files rest ≡ with_bytes files all
+  pub read : map pair_of sources ++ with_bytes files rest ≡ with_bytes files all
   pub large : first_large left (with_bytes files rest) ≡ first_large most_of_all (with_bytes files all)
   pub there : All (λ path. IsSome (bytes_at files path)) rest

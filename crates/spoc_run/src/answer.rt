@@ -1,15 +1,17 @@
-ghost use Rattle.std.specs.Prelude.{◌≡◌, [], map, Err};
+ghost use Rattle.std.specs.Prelude.{◌≡◌, ◌≤◌, [], map, length, Err};
 ghost use Rattle.std.specs.Str.{bytes_eq};
-ghost use Rattle.std.specs.List.{IsDistinct};
+ghost use Rattle.std.specs.List.{IsDistinct, All};
+ghost use Rattle.spoc_run.specs.Policy.{most_of_one};
 ghost use Rattle.spoc_io.specs.Files.{paths};
-ghost use Rattle.compile_core.specs.Compiled.{source_pair, file_pair, written_of};
+ghost use Rattle.compile_core.specs.Answer.{pair_of, file_of, written_of};
 ghost use Rattle.compile_core.specs.Outcome.{outcome_of};
 ghost use Rattle.spoc_run.specs.Answer.{bytes_of_message};
 ghost use Rattle.spoc_run.specs.Decided.{IsCompiled, AnswersSources, AnswersFail};
 
 use crate::load::LoadFail;
 use crate::texts::{fault_line, too_large};
-use compile_core::{Compiled, DeviceFile, compile, summary_text};
+use compile_core::compile::compile;
+use compile_core::{Compiled, DeviceFile, summary_text};
 use spoc_base::{Fault, Refusal, Row, Source, Text};
 use std::alloc::Global;
 
@@ -53,7 +55,7 @@ pub fn plain(alloc: Global, status: u8, text: Message) -> Answer
     ensures status { result.status ≡ status }
     ensures text { result.text ≡ text }
     ensures files { result.files ≡ [] }
-    ensures names { IsDistinct bytes_eq (paths (map file_pair result.files)) }
+    ensures names { IsDistinct bytes_eq (paths (map file_of result.files)) }
 {
     Answer {
         status,
@@ -64,8 +66,8 @@ pub fn plain(alloc: Global, status: u8, text: Message) -> Answer
 
 // The answer for a policy that is accepted.
 fn answer_for_compiled(alloc: Global, sources: &[Source], compiled: Compiled) -> Answer
-    requires { IsCompiled (map source_pair sources.now) (written_of compiled) }
-    ensures { AnswersSources (map source_pair sources.now) result.status (bytes_of_message result.text) (map file_pair result.files) }
+    requires { IsCompiled (map pair_of sources.now) (written_of compiled) }
+    ensures { AnswersSources (map pair_of sources.now) result.status (bytes_of_message result.text) (map file_of result.files) }
 {
     match summary_text(alloc, &compiled.summary) {
         Ok(summary) => Answer {
@@ -79,8 +81,8 @@ fn answer_for_compiled(alloc: Global, sources: &[Source], compiled: Compiled) ->
 
 // The answer for a policy that is refused.
 fn answer_for_fault(alloc: Global, sources: &[Source], fault: Fault) -> Answer
-    requires { outcome_of (map source_pair sources.now) ≡ Err fault }
-    ensures { AnswersSources (map source_pair sources.now) result.status (bytes_of_message result.text) (map file_pair result.files) }
+    requires { outcome_of (map pair_of sources.now) ≡ Err fault }
+    ensures { AnswersSources (map pair_of sources.now) result.status (bytes_of_message result.text) (map file_of result.files) }
 {
     match fault_line(alloc, sources, fault) {
         Ok(line) => plain(alloc, 1, Message::Made(line)),
@@ -90,7 +92,8 @@ fn answer_for_fault(alloc: Global, sources: &[Source], fault: Fault) -> Answer
 
 /// The answer for a policy that was read.
 pub fn answer_for_sources(alloc: Global, sources: &[Source]) -> Answer
-    ensures { AnswersSources (map source_pair sources.now) result.status (bytes_of_message result.text) (map file_pair result.files) }
+    requires { All (λ s. length s.text ≤ most_of_one) sources.now }
+    ensures { AnswersSources (map pair_of sources.now) result.status (bytes_of_message result.text) (map file_of result.files) }
 {
     match compile(alloc, sources) {
         Ok(compiled) => answer_for_compiled(alloc, sources, compiled),
@@ -101,7 +104,7 @@ pub fn answer_for_sources(alloc: Global, sources: &[Source]) -> Answer
 
 /// The answer where the policy could not be read.
 pub fn answer_for_fail(alloc: Global, fail: LoadFail) -> Answer
-    ensures { AnswersFail fail result.status (bytes_of_message result.text) (map file_pair result.files) }
+    ensures { AnswersFail fail result.status (bytes_of_message result.text) (map file_of result.files) }
 {
     match fail {
         LoadFail::Read => plain(alloc, 3, Message::ReadFault),

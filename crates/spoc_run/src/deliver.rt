@@ -3,7 +3,7 @@ ghost use Rattle.std.specs.Str.{bytes_eq};
 ghost use Rattle.std.specs.List.{IsDistinct};
 ghost use Rattle.spoc_io.specs.Causes.{HasCause, BothTold};
 ghost use Rattle.spoc_io.specs.Files.{paths};
-ghost use Rattle.compile_core.specs.Compiled.{file_pair};
+ghost use Rattle.compile_core.specs.Answer.{file_of};
 ghost use Rattle.spoc_run.specs.Puts.{PutsAll, PutsSome};
 
 use compile_core::DeviceFile;
@@ -11,9 +11,9 @@ use spoc_io::{PutFailed, Target};
 
 /// Puts the files in their order. It takes no memory.
 pub fn put_all<C: Target>(code: &mut C, files: &[DeviceFile]) -> Result<(), PutFailed>
-    requires { IsDistinct bytes_eq (paths (map file_pair files.now)) }
-    ensures ok { OnOk result (BothTold (PutsAll (map file_pair files.now)) (C.files code.old) (C.files code.new)) }
-    ensures err { OnErr result (BothTold (PutsSome (map file_pair files.now)) (C.files code.old) (C.files code.new)) }
+    requires { IsDistinct bytes_eq (paths (map file_of files.now)) }
+    ensures ok { OnOk result (BothTold (PutsAll (map file_of files.now)) (C.files code.old) (C.files code.new)) }
+    ensures err { OnErr result (BothTold (PutsSome (map file_of files.now)) (C.files code.old) (C.files code.new)) }
     ensures cause { HasCause (C.Target.faults code.old) (C.Target.faults code.new) result }
 {
     for file in files {

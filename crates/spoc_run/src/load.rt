@@ -6,7 +6,7 @@ ghost use Rattle.std.specs.Ordering.{nat_cmp};
 ghost use Rattle.std.specs.Cmp.Lexicographic.{slice_cmp};
 ghost use Rattle.std.specs.BTreeSet.{IsFromIterResult};
 ghost use Rattle.spoc_io.specs.Files.{bytes_at};
-ghost use Rattle.compile_core.specs.Compiled.{source_pair};
+ghost use Rattle.compile_core.specs.Answer.{pair_of};
 ghost use Rattle.spoc_run.specs.Sources.{IsLargeOf, HasLoadCause};
 ghost use Rattle.spoc_run.specs.Paths.{is_policy_path, is_skipped_part};
 ghost use Rattle.spoc_run.specs.Policy.{policy_of, with_bytes, first_large, most_of_all, most_of_one};
@@ -124,7 +124,8 @@ fn read_all<P: Folder>(
     wanted: BTreeSet<Text>,
 ) -> Result<Vec<Source>, LoadFail>
     requires { ForSome (P.files policy.old) (λ fs. All (λ path. IsSome (bytes_at fs path)) wanted.keys) }
-    ensures sources { IfOk result (λ v. ForSome (P.files policy.old) (λ fs. map source_pair v.items ≡ with_bytes fs wanted.keys)) }
+    ensures sources { IfOk result (λ v. ForSome (P.files policy.old) (λ fs. map pair_of v.items ≡ with_bytes fs wanted.keys)) }
+    ensures each { IfOk result (λ v. All (λ s. length s.text ≤ most_of_one) v.items) }
     ensures small { OnOk result (ForSome (P.files policy.old) (λ fs. first_large most_of_all (with_bytes fs wanted.keys) ≡ None)) }
     ensures large { IfErr result (IsLargeOf (λ path. ForSome (P.files policy.old) (λ fs. first_large most_of_all (with_bytes fs wanted.keys) ≡ Some path))) }
     ensures same { P.files policy.new ≡ P.files policy.old }
@@ -142,7 +143,8 @@ fn read_all<P: Folder>(
 
 /// Reads the policy's files in ascending order of their paths.
 pub fn load<P: Folder>(alloc: Global, policy: &mut P) -> Result<Vec<Source>, LoadFail>
-    ensures sources { IfOk result (λ v. ForSome (P.files policy.old) (λ fs. map source_pair v.items ≡ policy_of fs)) }
+    ensures sources { IfOk result (λ v. ForSome (P.files policy.old) (λ fs. map pair_of v.items ≡ policy_of fs)) }
+    ensures each { IfOk result (λ v. All (λ s. length s.text ≤ most_of_one) v.items) }
     ensures small { OnOk result (ForSome (P.files policy.old) (λ fs. first_large most_of_all (policy_of fs) ≡ None)) }
     ensures large { IfErr result (IsLargeOf (λ path. ForSome (P.files policy.old) (λ fs. first_large most_of_all (policy_of fs) ≡ Some path))) }
     ensures same { P.files policy.new ≡ P.files policy.old }

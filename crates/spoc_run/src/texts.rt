@@ -1,6 +1,6 @@
 ghost use Rattle.std.specs.Prelude.{◌≡◌, ◌++◌, ◌^◌, ◌<◌, IfOk, map, codes, length};
 ghost use Rattle.std.specs.Fmt.{decimal};
-ghost use Rattle.compile_core.specs.Compiled.{source_pair};
+ghost use Rattle.compile_core.specs.Answer.{pair_of};
 ghost use Rattle.spoc_run.specs.Texts.{source_at, part_of, text_at, place_text, fault_text, fault_line};
 
 use spoc_base::{Fault, NoMemory, Source, Span, Text};
@@ -8,7 +8,7 @@ use std::alloc::Global;
 
 // The path of a source, and nothing where there is none.
 fn path_at(sources: &[Source], file: u32) -> &[u8]
-    ensures { result.now ≡ (source_at (map source_pair sources.now) file).0 }
+    ensures { result.now ≡ (source_at (map pair_of sources.now) file).0 }
 {
     match sources.get(file as usize) {
         Some(source) => source.path.bytes(),
@@ -18,7 +18,7 @@ fn path_at(sources: &[Source], file: u32) -> &[u8]
 
 // The bytes of a source, and nothing where there is none.
 fn bytes_at(sources: &[Source], file: u32) -> &[u8]
-    ensures { result.now ≡ (source_at (map source_pair sources.now) file).1 }
+    ensures { result.now ≡ (source_at (map pair_of sources.now) file).1 }
 {
     match sources.get(file as usize) {
         Some(source) => source.text.bytes(),
@@ -39,7 +39,7 @@ fn part_of(text: &[u8], start: usize, end: usize) -> &[u8]
 
 // The bytes of a span.
 fn text_at(sources: &[Source], span: Span) -> &[u8]
-    ensures { result.now ≡ text_at (map source_pair sources.now) span }
+    ensures { result.now ≡ text_at (map pair_of sources.now) span }
 {
     part_of(
         bytes_at(sources, span.file),
@@ -57,7 +57,7 @@ fn add_place(
     file: u32,
     offset: u32,
 ) -> Result<(), NoMemory>
-    ensures { IfOk result (λ _. line.new.items ≡ line.old.items ++ (word.now ++ place_text (map source_pair sources.now) file offset)) }
+    ensures { IfOk result (λ _. line.new.items ≡ line.old.items ++ (word.now ++ place_text (map pair_of sources.now) file offset)) }
 {
     line.extend_from_slice(word)?;
     line.extend_from_slice(path_at(sources, file))?;
@@ -74,7 +74,7 @@ fn add_fault(
     sources: &[Source],
     fault: Fault,
 ) -> Result<(), NoMemory>
-    ensures { IfOk result (λ _. line.new.items ≡ line.old.items ++ fault_text (map source_pair sources.now) fault) }
+    ensures { IfOk result (λ _. line.new.items ≡ line.old.items ++ fault_text (map pair_of sources.now) fault) }
 {
     match fault {
         Fault::Lex { file, offset } => add_place(line, alloc, sources, b"Lex ", file, offset),
@@ -99,7 +99,7 @@ fn add_fault(
 
 /// The line of a policy that is refused, as `fault Form` and a line feed.
 pub fn fault_line(alloc: Global, sources: &[Source], fault: Fault) -> Result<Text, NoMemory>
-    ensures { IfOk result (λ text. text ≡ fault_line (map source_pair sources.now) fault) }
+    ensures { IfOk result (λ text. text ≡ fault_line (map pair_of sources.now) fault) }
 {
     let mut line = Vec::from_slice(alloc, b"fault ")?;
     add_fault(&mut line, alloc, sources, fault)?;

@@ -6,7 +6,7 @@ ghost use Rattle.spoc_io.specs.Causes.{Rose, BothTold};
 ghost use Rattle.spoc_io.specs.Files.{paths, Grows, GrowsPart};
 ghost use Rattle.spoc_run.specs.Policy.{policy_of};
 ghost use Rattle.spoc_run.specs.Outcome.{is_compile, text_of};
-ghost use Rattle.compile_core.specs.Compiled.{file_pair};
+ghost use Rattle.compile_core.specs.Answer.{file_of};
 ghost use Rattle.spoc_run.specs.Answer.{bytes_of_message};
 ghost use Rattle.spoc_run.specs.Puts.{PutsAll, PutsSome};
 ghost use Rattle.spoc_run.specs.Caused.{IsCaused, InsteadOf, NothingFailed, IsSettled, is_either, files_of};
@@ -36,8 +36,8 @@ fn is_compile(words: &[Text]) -> bool
 fn decide<P: Folder>(alloc: Global, words: &[Text], policy: &mut P) -> Answer
     ensures cause { IsCaused words.now (P.files policy.old) (P.faults policy.old) (P.faults policy.new) (P.larges policy.old) (P.larges policy.new) result.status }
     ensures text { ForSome (text_of result.status (P.files policy.old)) (λ text. bytes_of_message result.text ≡ text) }
-    ensures files { result.status ≡ 0 → ForSome (P.files policy.old) (λ fs. map file_pair result.files ≡ files_of fs) }
-    ensures names { IsDistinct bytes_eq (paths (map file_pair result.files)) }
+    ensures files { result.status ≡ 0 → ForSome (P.files policy.old) (λ fs. map file_of result.files ≡ files_of fs) }
+    ensures names { IsDistinct bytes_eq (paths (map file_of result.files)) }
     ensures same { P.files policy.new ≡ P.files policy.old }
 {
     if !is_compile(words) {
@@ -68,12 +68,12 @@ fn say<O: TextOut>(out: &mut O, status: u8, text: &[u8]) -> u8
 // Puts the device files, and writes the text of the status.
 fn deliver<C: Folder + Target, O: TextOut>(code: &mut C, out: &mut O, answer: &Answer) -> u8
     requires status { answer.now.status ≢ 4 }
-    requires names { IsDistinct bytes_eq (paths (map file_pair answer.now.files)) }
+    requires names { IsDistinct bytes_eq (paths (map file_of answer.now.files)) }
     ensures which { result ≢ 4 → result ≡ answer.now.status }
     ensures cause { result ≡ 4 → Rose (C.Target.faults code.old) (C.Target.faults code.new) ⊎ Rose (O.faults out.old) (O.faults out.new) }
     ensures untouched { answer.now.status ≢ 0 → code.new ≡ code.old }
-    ensures put { result ≡ 0 → BothTold (PutsAll (map file_pair answer.now.files)) (C.files code.old) (C.files code.new) }
-    ensures put_part { result ≡ 4 → answer.now.status ≡ 0 → BothTold (PutsSome (map file_pair answer.now.files)) (C.files code.old) (C.files code.new) }
+    ensures put { result ≡ 0 → BothTold (PutsAll (map file_of answer.now.files)) (C.files code.old) (C.files code.new) }
+    ensures put_part { result ≡ 4 → answer.now.status ≡ 0 → BothTold (PutsSome (map file_of answer.now.files)) (C.files code.old) (C.files code.new) }
     ensures whole { result ≢ 4 → BothTold (Grows (bytes_of_message answer.now.text)) (O.text out.old) (O.text out.new) }
     ensures part { result ≡ 4 → BothTold (GrowsPart (bytes_of_message answer.now.text)) (O.text out.old) (O.text out.new) }
     ensures silent { result ≡ 4 → out.new ≡ out.old ⊎ Rose (O.faults out.old) (O.faults out.new) }

@@ -1,11 +1,11 @@
 use Rattle.std.proofs.Common.{◌≡◌, ◌≤◌, take, map}
 use Rattle.spoc_io.specs.Causes.{BothTold}
-use Rattle.compile_core.specs.Compiled.{file_pair}
+use Rattle.compile_core.specs.Answer.{file_of}
 use Rattle.spoc_run.specs.Puts.{PutsAll}
 use Rattle.spoc_run.proofs.deliver.put_all.Given as goal
 
 abbrev pub invariant-loop-file : goal.invariant-loop-file
 invariant-loop-file g l = record {
-  put : BothTold (PutsAll (take l.file-index (map file_pair l.files))) (g.C.Folder.files l.fn.code) (g.C.Folder.files l.code);
+  put : BothTold (PutsAll (take l.file-index (map file_of l.files))) (g.C.Folder.files l.fn.code) (g.C.Folder.files l.code);
   later : g.C.Target.faults l.fn.code ≤ g.C.Target.faults l.code;
 }

@@ -1,8 +1,8 @@
-use Rattle.std.proofs.Common.{◌≡◌, ◌≤◌, ◌++◌, All, map, IsSome}
+use Rattle.std.proofs.Common.{◌≡◌, ◌≤◌, ◌++◌, All, map, IsSome, length}
 use Rattle.std.specs.Option.{ForSome}
 use Rattle.spoc_io.specs.Files.{Files, bytes_at}
-use Rattle.spoc_run.specs.Policy.{with_bytes, first_large, most_of_all}
-use Rattle.compile_core.specs.Compiled.{source_pair}
+use Rattle.spoc_run.specs.Policy.{with_bytes, first_large, most_of_all, most_of_one}
+use Rattle.compile_core.specs.Answer.{pair_of}
 use Rattle.spoc_run.specs.Sources.{ReadsOn}
 use Rattle.spoc_run.proofs.load.read_all.Given as goal
 
@@ -14,5 +14,6 @@ invariant-loop-path g l =
       told : ForSome (folder.files l.fn.policy) (λ fs. ReadsOn fs l.fn.wanted.keys l.path-iterator l.sources.items l.left);
       later : folder.faults l.fn.policy ≤ folder.faults l.policy;
       larger : folder.larges l.fn.policy ≤ folder.larges l.policy;
+      each : All (λ s. length s.text ≤ most_of_one) l.sources.items;
       left : l.left ≤ most_of_all;
     }

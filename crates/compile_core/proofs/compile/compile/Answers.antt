@@ -1,6 +1,6 @@
 use Rattle.std.proofs.Common.{[]}
 use Rattle.std.specs.List.{IsDistinct}
-use Rattle.compile_core.proofs.compile.Goals as goal
+use Rattle.compile_core.proofs.compile.compile.Goals as goal
 
 pub returns-clause-names : goal.returns-clause-names
 unfolding IsDistinct
