@@ -1,6 +1,0 @@
-//! stub
-#![tactic(auto)]
-
-pub mod compile;
-
-pub use compile::{Compiled, DeviceFile, Summary, summary_text};
