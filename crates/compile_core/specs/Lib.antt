@@ -1,0 +1,4 @@
+pub mod Words
+pub mod Narrow
+pub mod Reading
+pub mod Seen

@@ -1,0 +1,5 @@
+//! From one policy file to one device file.
+#![tactic(auto)]
+
+mod reading;
+mod words;
