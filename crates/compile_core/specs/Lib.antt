@@ -1,4 +1,5 @@
 pub mod Words
 pub mod Narrow
 pub mod Reading
+pub mod Consistent
 pub mod Seen
