@@ -60,3 +60,10 @@ pub fn table<'a>(alloc: Global, names: &[&'a [u8]]) -> Result<Option<Names<'a>>,
     }
     Ok(Some(seen))
 }
+
+// Whether a name stands twice.
+pub fn repeat(alloc: Global, names: &[&[u8]]) -> Result<bool, NoMemory>
+    ensures { IfOk result (λ found. found ≡ has_repeat (map (λ name. name.now) names.now)) }
+{
+    Ok(table(alloc, names)?.is_none())
+}
