@@ -2,6 +2,7 @@
 #![tactic(auto)]
 
 mod consistent;
+mod entry;
 mod names;
 mod reading;
 mod words;
