@@ -22,7 +22,7 @@ less_from : (m n : ℕ) (b : Bool) → (m < n) ⊎ ((m ≡ n) × (b ≡ true)) �
 less_from m n b (inl h) = or_left (nat_lt m n) ((m == n) && b) (lt-ltb m n h)
 less_from m n b (inr h) = or_right (nat_lt m n) ((m == n) && b) (and_from (m == n) b (eq-eqb m n h.0) h.1)
 
-is_or_not : (b : Bool) → (b ≡ true) ⊎ (b ≡ false)
+pub is_or_not : (b : Bool) → (b ≡ true) ⊎ (b ≡ false)
 is_or_not true = inl refl
 is_or_not false = inr refl
 

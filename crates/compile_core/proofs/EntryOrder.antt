@@ -6,9 +6,9 @@ use Rattle.std.specs.List.Sorted.{IsSorted}
 use Rattle.std.specs.Ordering.{is_lt, nat_cmp, bool_cmp, ordering_then}
 use Rattle.std.specs.declared.cmp.Ordering.{Ordering}
 use Rattle.std.specs.declared.cmp.Ordering.TheVariants.{Less, Equal, Greater}
-use Rattle.compile_core.specs.declared.entry.Entry as code
+use Rattle.compile_core.specs.declared.entry.Entry.{Entry}
 use Rattle.compile_core.specs.contracts.entry.EntryOrd.TheImpl.{cmp-value}
-use Rattle.compile_core.specs.Entries.{Entry, entry_of, is_before, Climbs, less_then, forward_then}
+use Rattle.compile_core.specs.Entries.{is_before, Climbs, less_then, back_number}
 
 number_first : (m n : ℕ) (o : Ordering) → is_lt (ordering_then (nat_cmp m n) o) ≡ less_then m n (is_lt o)
 number_first m n o = by (nat_lt m n) (m == n)
@@ -18,21 +18,22 @@ number_first m n o = by (nat_lt m n) (m == n)
     by false true = refl
     by false false = refl
 
-last_number : (m n : ℕ) → is_lt (nat_cmp m n) ≡ nat_lt m n
+last_number : (m n : ℕ) → is_lt (nat_cmp m n) ≡ less_then m n false
 last_number m n = by (nat_lt m n) (m == n)
   where
-    by : (a b : Bool) → is_lt (cond a Less (cond b Equal Greater)) ≡ a
+    by : (a b : Bool) → is_lt (cond a Less (cond b Equal Greater)) ≡ (a || (b && false))
     by true b = refl
     by false true = refl
     by false false = refl
 
-back_first : (a b : Bool) (o : Ordering) → is_lt (ordering_then (bool_cmp a b) o) ≡ forward_then a b (is_lt o)
+back_first : (a b : Bool) (o : Ordering) → is_lt (ordering_then (bool_cmp a b) o) ≡ less_then (back_number a) (back_number b) (is_lt o)
 back_first true true o = refl
 back_first true false o = refl
 back_first false true o = refl
 back_first false false o = refl
 
-same_order : (a b : code.Entry) → is_lt ((cmp-value).it a b) ≡ is_before (entry_of a) (entry_of b)
+same_order : (a b : Entry) → is_lt ((cmp-value).it a b) ≡ is_before a b
+unfolding is_before
 same_order a b =
     let service = nat_cmp a.service b.service in
     let back = ordering_then (bool_cmp a.back b.back) service in
@@ -44,18 +45,18 @@ same_order a b =
     ∙ ap (less_then a.shallow b.shallow) (number_first a.src b.src dst
     ∙ ap (less_then a.src b.src) (number_first a.dst b.dst back
     ∙ ap (less_then a.dst b.dst) (back_first a.back b.back service
-    ∙ ap (forward_then a.back b.back) (last_number a.service b.service)))))
+    ∙ ap (less_then (back_number a.back) (back_number b.back)) (last_number a.service b.service)))))
 
-pub climbs : (xs : List code.Entry) → IsSorted (cmp-value).it xs → Climbs (map entry_of xs)
+pub climbs : (xs : List Entry) → IsSorted (cmp-value).it xs → Climbs xs
 climbs [] h = tt
 climbs (x ∷ []) h = tt
 climbs (x ∷ y ∷ ys) h = (sym (same_order y x) ∙ h 0 x (omega arith) (omega arith), climbs (y ∷ ys) later)
   where
-    later : (k : ℕ) (d : code.Entry) → 0 ≤ k → k + 1 < length (y ∷ ys) → is_lt ((cmp-value).it (get_or (y ∷ ys) (k + 1) d) (get_or (y ∷ ys) k d)) ≡ false
+    later : (k : ℕ) (d : Entry) → 0 ≤ k → k + 1 < length (y ∷ ys) → is_lt ((cmp-value).it (get_or (y ∷ ys) (k + 1) d) (get_or (y ∷ ys) k d)) ≡ false
     later k d low high =
         let e : suc k + 1 ≡ suc (k + 1) = omega arith in
         subst (λ m. is_lt ((cmp-value).it (get_or (x ∷ y ∷ ys) m d) (get_or (y ∷ ys) k d)) ≡ false) e (h (suc k) d (omega arith) (omega arith))
 
-pub on_ok : (r : Result (Unit {0}) AllocError) (xs : List code.Entry) → OnOk r (IsSorted (cmp-value).it xs) → IfOk r (λ x. Climbs (map entry_of xs))
+pub on_ok : (r : Result (Unit {0}) AllocError) (xs : List Entry) → OnOk r (IsSorted (cmp-value).it xs) → IfOk r (λ x. Climbs xs)
 on_ok (Ok u) xs h = climbs xs h
 on_ok (Err e) xs h = tt

@@ -3,4 +3,7 @@ pub mod Narrow
 pub mod Reading
 pub mod Consistent
 pub mod Entries
+pub mod DeviceText
 pub mod Seen
+pub mod Outcome
+pub mod Answer

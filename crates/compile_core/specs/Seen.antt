@@ -8,6 +8,9 @@ use Rattle.compile_core.specs.declared.reading.InterfaceDecl.{InterfaceDecl}
 use Rattle.compile_core.specs.declared.reading.RouterDecl.{RouterDecl}
 use Rattle.compile_core.specs.declared.reading.ServiceDecl.{ServiceDecl}
 use Rattle.compile_core.specs.declared.reading.NarrowFile.{NarrowFile}
+use Rattle.compile_core.specs.declared.consistent.Tables.{Tables}
+use Rattle.spoc_base.specs.Shown.{cidr_of}
+use Rattle.compile_core.specs.Entries.{Numbered}
 use Rattle.compile_core.specs.Narrow.{Network, Interface, Router, Service, Narrow}
 
 abbrev pub toks_of : List Token → List Tok
@@ -27,3 +30,6 @@ router_of d = record { name = d.name.now; interfaces = map interface_of d.interf
 
 abbrev pub narrow_of : NarrowFile → Narrow
 narrow_of f = record { networks = map network_of f.networks.items; router = router_of f.router; services = map service_of f.services.items }
+
+abbrev pub numbered_of : Tables → Numbered
+numbered_of t = record { nets = t.names.nets; ports = t.names.ports; own = map cidr_of t.own.items }

@@ -3,7 +3,8 @@ ghost use Rattle.std.specs.Str.{bytes_eq};
 ghost use Rattle.std.specs.List.{list_any};
 ghost use Rattle.spoc_base.specs.Shown.{cidr_of};
 ghost use Rattle.compile_core.specs.Consistent.{is_cidr, two_meet, has_repeat, network_names, interface_nets, hardwares, service_names, prefixes, is_misplaced, is_misled, is_inconsistent, has_wrong_prefix, has_twin, has_misfit, is_known, prefixes_meet, neighbours_meet};
-ghost use Rattle.compile_core.specs.Seen.{network_of, interface_of, service_of, narrow_of};
+ghost use Rattle.compile_core.specs.Entries.{numbered_in};
+ghost use Rattle.compile_core.specs.Seen.{network_of, interface_of, service_of, narrow_of, numbered_of};
 
 use crate::names::{Names, repeat, table};
 use crate::reading::{InterfaceDecl, NarrowFile, NetworkDecl, ServiceDecl};
@@ -273,9 +274,7 @@ pub struct Tables<'a> {
 // The tables of a file whose names, addresses and services fit together, or none.
 pub fn resolve<'a>(alloc: Global, file: &NarrowFile<'a>) -> Result<Option<Tables<'a>>, NoMemory>
     ensures fits { IfOk result (λ found. is_none found ≡ is_inconsistent (narrow_of file.now)) }
-    ensures nets { IfOk result (λ found. IfSome found (λ t. t.names.nets ≡ network_names (narrow_of file.now))) }
-    ensures ports { IfOk result (λ found. IfSome found (λ t. t.names.ports ≡ interface_nets (narrow_of file.now))) }
-    ensures own { IfOk result (λ found. IfSome found (λ t. map cidr_of t.own.items ≡ prefixes (narrow_of file.now))) }
+    ensures tables { IfOk result (λ found. IfSome found (λ t. numbered_of t ≡ numbered_in (narrow_of file.now))) }
 {
     let Some(own) = right_prefixes(alloc, file)? else {
         return Ok(None);

@@ -1,4 +1,3 @@
-use Rattle.std.proofs.Common.{map}
 use Rattle.compile_core.proofs.EntryOrder.{on_ok}
 use Rattle.compile_core.proofs.entry.sort.Goals as goal
 
