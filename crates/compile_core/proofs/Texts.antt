@@ -26,3 +26,15 @@ unfolding summary_text
 summary_is_put c o0 o1 o2 o3 o4 o5 o6 o7 e0 e1 e2 e3 e4 e5 e6 e7 =
     e7 ∙ ap (λ l. l ++ count_line (codes "routes ") c.routes) (e6 ∙ ap (λ l. l ++ count_line (codes "lines ") c.lines) (e5 ∙ ap (λ l. l ++ count_line (codes "local ") c.local)
       (e4 ∙ ap (λ l. l ++ count_line (codes "permits ") c.permits) (e3 ∙ ap (λ l. l ++ count_line (codes "routers ") c.routers) (e2 ∙ ap (λ l. l ++ count_line (codes "zones ") c.zones) (e1 ∙ ap (λ l. l ++ count_line (codes "networks ") c.networks) e0))))))
+
+pub both : (a b : List ℕ) (m n : ℕ) → a ≡ b → m ≡ n → ◌≡◌ {A = List ℕ × ℕ} (a, m) (b, n)
+both a b m n e f = let P : List ℕ → List ℕ × ℕ = λ l. (l, m) in let Q : ℕ → List ℕ × ℕ = λ k. (b, k) in ap P e ∙ ap Q f
+
+counts : ℕ → ℕ → ℕ → ℕ → ℕ → Counts
+counts n z p l k = record { networks = n; zones = z; routers = 1; permits = p; local = l; lines = k; routes = 0 }
+
+pub same_counts : (n n' z z' p p' l l' k : ℕ) → n ≡ n' → z ≡ z' → p ≡ p' → l ≡ l' →
+    ◌≡◌ {A = Counts} (record { networks = n; zones = z; routers = 1; permits = p; local = l; lines = k; routes = 0 }) (record { networks = n'; zones = z'; routers = 1; permits = p'; local = l'; lines = k; routes = 0 })
+unfolding counts
+same_counts n n' z z' p p' l l' k a b c d =
+    ap (λ m. counts m z p l k) a ∙ ap (λ m. counts n' m p l k) b ∙ ap (λ m. counts n' z' m l k) c ∙ ap (λ m. counts n' z' p' m k) d

@@ -4,9 +4,9 @@ use Rattle.spoc_base.specs.declared.fault.Fault.{Fault}
 use Rattle.spoc_base.specs.declared.fault.Refusal.{Refusal}
 use Rattle.spoc_base.specs.declared.fault.Refusal.TheVariants as refusal
 use Rattle.spoc_base.specs.declared.place.Source.{Source}
-use Rattle.compile_core.specs.declared.compile.DeviceFile.{DeviceFile}
-use Rattle.compile_core.specs.declared.compile.Summary.{Summary}
-use Rattle.compile_core.specs.declared.compile.Compiled.{Compiled}
+use Rattle.compile_core.specs.declared.compiling.DeviceFile.{DeviceFile}
+use Rattle.compile_core.specs.declared.compiling.Summary.{Summary}
+use Rattle.compile_core.specs.declared.compiling.Compiled.{Compiled}
 use Rattle.compile_core.specs.Outcome.{Counts, Written}
 
 -- a source's path and text

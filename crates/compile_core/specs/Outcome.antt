@@ -5,9 +5,9 @@ use Rattle.spoc_base.specs.declared.fault.Fault.{Fault}
 use Rattle.spoc_base.specs.declared.fault.Fault.TheVariants.{Form, Names}
 use Rattle.spoc_lexer.specs.Tokens.{Tok, tokens_of}
 use Rattle.policy_model.specs.Filters.{Line}
-use Rattle.compile_core.specs.Narrow.{Service, Narrow}
+use Rattle.compile_core.specs.Narrow.{Network, Interface, Service, Narrow}
 use Rattle.compile_core.specs.Reading.{read_narrow}
-use Rattle.compile_core.specs.Consistent.{number_in, hardwares, is_inconsistent}
+use Rattle.compile_core.specs.Consistent.{number_in, is_inconsistent}
 use Rattle.compile_core.specs.Entries.{Numbered, numbered_in, lists_from}
 use Rattle.compile_core.specs.DeviceText.{device_text}
 
@@ -30,29 +30,27 @@ pub record Written : Type 0 where
 abbrev pub is_local : Numbered → Service → Bool
 is_local t s = number_in t.nets s.user == number_in t.nets s.dst
 
--- the lists of the router's interfaces
-abbrev pub router_lists : Numbered → Narrow → List (List Line)
-router_lists t f = lists_from t f.services 0 f.router.interfaces
-
 -- the text of the router's file, and how many lines its lists have
-unfoldable pub device_of : Numbered → Narrow → List ℕ × ℕ
-device_of t f = (device_text f.router.name (hardwares f) (router_lists t f), sum_by length (router_lists t f))
+unfoldable pub device_of : Numbered → List ℕ → List Interface → List Service → List ℕ × ℕ
+device_of t name interfaces services =
+    let lists = lists_from t services 0 interfaces in
+    (device_text name (map (λ i. i.hardware) interfaces) lists, sum_by length lists)
 
-unfoldable pub counts_in : Narrow → ℕ → Counts
-counts_in f lines = record {
-  networks = length f.networks;
-  zones = length f.networks;
+unfoldable pub counts_in : Numbered → List Network → List Service → ℕ → Counts
+counts_in t networks services lines = record {
+  networks = length networks;
+  zones = length networks;
   routers = 1;
-  permits = length f.services;
-  local = length (filter (is_local (numbered_in f)) f.services);
+  permits = length services;
+  local = length (filter (is_local t) services);
   lines = lines;
   routes = 0;
 }
 
 abbrev pub written : Narrow → Written
 written f =
-    let made = device_of (numbered_in f) f in
-    record { files = (f.router.name, made.0) ∷ []; counts = counts_in f made.1 }
+    let made = device_of (numbered_in f) f.router.name f.router.interfaces f.services in
+    record { files = (f.router.name, made.0) ∷ []; counts = counts_in (numbered_in f) f.networks f.services made.1 }
 
 abbrev pub outcome_of_narrow : Option Narrow → Result Written Fault
 outcome_of_narrow None = Err Form

@@ -4,7 +4,7 @@
 //! services by TCP from one network to another.
 #![tactic(auto)]
 
-pub mod compile;
+mod compiling;
 mod consistent;
 mod entry;
 mod lists;
@@ -13,4 +13,7 @@ mod reading;
 mod text;
 mod words;
 
-pub use compile::{Compiled, DeviceFile, Summary, summary_text};
+#[cfg(test)]
+mod tests;
+
+pub use compiling::{Compiled, DeviceFile, Summary, compile, summary_text};

@@ -4,14 +4,14 @@ ghost use Rattle.std.specs.Fmt.{decimal};
 ghost use Rattle.compile_core.specs.Consistent.{number_in};
 ghost use Rattle.compile_core.specs.Entries.{numbered_in, lists_from};
 ghost use Rattle.compile_core.specs.DeviceText.{device_text};
-ghost use Rattle.compile_core.specs.Seen.{narrow_of, numbered_of, service_of, interface_of};
+ghost use Rattle.compile_core.specs.Seen.{narrow_of, numbered_of, service_of, interface_of, network_of};
 ghost use Rattle.compile_core.specs.Outcome.{outcome_of, outcome_of_text, outcome_of_tokens, written, counts_in, is_local, summary_text, device_of};
 ghost use Rattle.compile_core.specs.Answer.{pair_of, written_of, counts_of, IsRefusalOf};
 
 use crate::consistent::{Tables, resolve};
 use crate::entry::entries;
 use crate::lists::{put_bindings, put_lists};
-use crate::reading::{NarrowFile, ServiceDecl, narrow};
+use crate::reading::{InterfaceDecl, NarrowFile, NetworkDecl, ServiceDecl, narrow};
 use crate::text::{put, put_count};
 use spoc_base::{Fault, NoMemory, Refusal, Row, Source, Text};
 use spoc_lexer::{LexFail, tokens};
@@ -65,29 +65,29 @@ fn local(tables: &Tables<'_>, services: &[ServiceDecl<'_>]) -> usize
 }
 
 // The text of the router's file, and how many lines its lists have.
-fn device(alloc: Global, file: &NarrowFile<'_>, tables: &Tables<'_>) -> Result<(Vec<u8>, usize), NoMemory>
-    ensures { IfOk result (λ r. (r.0.items, r.1) ≡ device_of (numbered_of tables.now) (narrow_of file.now)) }
+fn device(alloc: Global, name: &[u8], interfaces: &[InterfaceDecl<'_>], services: &[ServiceDecl<'_>], tables: &Tables<'_>) -> Result<(Vec<u8>, usize), NoMemory>
+    ensures { IfOk result (λ r. (r.0.items, r.1) ≡ device_of (numbered_of tables.now) name.now (map interface_of interfaces.now) (map service_of services.now)) }
 {
-    let entries = entries(alloc, tables, &file.services)?;
+    let entries = entries(alloc, tables, services)?;
     let mut out = Vec::new(alloc);
     put(&mut out, b"! ")?;
-    put(&mut out, file.router.name)?;
+    put(&mut out, name)?;
     put(&mut out, b" IOS\n")?;
-    let lines = put_lists(&mut out, &file.router.interfaces, tables, &file.services, &entries)?;
-    put_bindings(&mut out, &file.router.interfaces)?;
+    let lines = put_lists(&mut out, interfaces, tables, services, &entries)?;
+    put_bindings(&mut out, interfaces)?;
     Ok((out, lines))
 }
 
-fn summarize(file: &NarrowFile<'_>, tables: &Tables<'_>, lines: usize) -> Summary
-    requires { numbered_of tables.now ≡ numbered_in (narrow_of file.now) }
-    ensures { counts_of result ≡ counts_in (narrow_of file.now) lines }
+fn summarize(networks: &[NetworkDecl<'_>], services: &[ServiceDecl<'_>], tables: &Tables<'_>, lines: usize) -> Summary
+    ensures { counts_of result ≡ counts_in (numbered_of tables.now) (map network_of networks.now) (map service_of services.now) lines }
 {
+    let local = local(tables, services);
     Summary {
-        networks: file.networks.len() as u64,
-        zones: file.networks.len() as u64,
+        networks: networks.len() as u64,
+        zones: networks.len() as u64,
         routers: 1,
-        permits: file.services.len() as u64,
-        local: local(tables, &file.services) as u64,
+        permits: services.len() as u64,
+        local: local as u64,
         lines: lines as u64,
         routes: 0,
     }
@@ -97,10 +97,11 @@ fn write(alloc: Global, file: &NarrowFile<'_>, tables: &Tables<'_>) -> Result<Co
     requires { numbered_of tables.now ≡ numbered_in (narrow_of file.now) }
     ensures { IfOk result (λ c. written_of c ≡ written (narrow_of file.now)) }
 {
-    let (bytes, lines) = device(alloc, file, tables)?;
-    let summary = summarize(file, tables, lines);
+    let services = file.services.as_slice();
+    let (bytes, lines) = device(alloc, file.router.name, file.router.interfaces.as_slice(), services, tables)?;
+    let summary = summarize(file.networks.as_slice(), services, tables, lines);
     let name = Text::of(alloc, file.router.name)?;
-    let bytes = Text::of(alloc, &bytes)?;
+    let bytes = Text::of(alloc, bytes.as_slice())?;
     let mut files = Vec::new(alloc);
     files.push(DeviceFile { name, bytes })?;
     Ok(Compiled { files: Row::of(files), summary })
@@ -136,15 +137,15 @@ pub fn compile(alloc: Global, sources: &[Source]) -> Result<Compiled, Refusal>
     ensures ok { IfOk result (λ c. outcome_of (map pair_of sources.now) ≡ Ok (written_of c)) }
     ensures refused { IfErr result (IsRefusalOf (λ fault. outcome_of (map pair_of sources.now) ≡ Err fault)) }
 {
-    let [source] = sources else {
-        return Err(Refusal::Policy(Fault::Form));
-    };
-    compile_text(alloc, source.text.bytes())
+    match sources {
+        [source] => compile_text(alloc, source.text.bytes()),
+        [] => Err(Refusal::Policy(Fault::Form)),
+        [_, _, ..] => Err(Refusal::Policy(Fault::Form)),
+    }
 }
 
-/// The summary as seven lines: a word, a space and the number.
-pub fn summary_text(alloc: Global, summary: &Summary) -> Result<Text, NoMemory>
-    ensures { IfOk result (λ text. text ≡ summary_text (counts_of summary.now)) }
+fn summary_bytes(alloc: Global, summary: &Summary) -> Result<Vec<u8>, NoMemory>
+    ensures { IfOk result (λ out. out.items ≡ summary_text (counts_of summary.now)) }
 {
     let mut out = Vec::new(alloc);
     put_count(&mut out, b"networks ", summary.networks)?;
@@ -154,5 +155,13 @@ pub fn summary_text(alloc: Global, summary: &Summary) -> Result<Text, NoMemory>
     put_count(&mut out, b"local ", summary.local)?;
     put_count(&mut out, b"lines ", summary.lines)?;
     put_count(&mut out, b"routes ", summary.routes)?;
-    Text::of(alloc, &out)
+    Ok(out)
+}
+
+/// The summary as seven lines: a word, a space and the number.
+pub fn summary_text(alloc: Global, summary: &Summary) -> Result<Text, NoMemory>
+    ensures { IfOk result (λ text. text ≡ summary_text (counts_of summary.now)) }
+{
+    let out = summary_bytes(alloc, summary)?;
+    Text::of(alloc, out.as_slice())
 }
