@@ -1,0 +1,40 @@
+-- Texts put one behind the other.
+use Rattle.std.proofs.Common.{◌≡◌, ℕ, suc, Bool, true, false, cond, List, [], ◌∷◌, ◌++◌, length, map, refl, sym, ap, ◌∙◌, append_assoc}
+use Rattle.std.specs.Prelude.{codes, filter, sum_by, flat_map}
+use Rattle.policy_model.specs.Filters.{Line}
+use Rattle.compile_core.specs.DeviceText.{device_text, lists_text, binding_text}
+use Rattle.compile_core.specs.Outcome.{Counts, summary_text, count_line}
+
+pub length-filter_map : {A B : Type 0} (f : A → B) (p : B → Bool) (xs : List A) → length (filter p (map f xs)) ≡ length (filter (λ x. p (f x)) xs)
+length-filter_map f p [] = refl
+length-filter_map {A} {B} f p (x ∷ xs) = by (p (f x)) (length-filter_map f p xs)
+  where
+    by : (b : Bool) → length (filter p (map f xs)) ≡ length (filter (λ y. p (f y)) xs) →
+        length (cond b (f x ∷ filter p (map f xs)) (filter p (map f xs))) ≡ length (cond b (x ∷ filter (λ y. p (f y)) xs) (filter (λ y. p (f y)) xs))
+    by true ih = ap suc ih
+    by false ih = ih
+
+pub device_is_put : (name : List ℕ) (hardwares : List (List ℕ)) (lists : List (List Line)) (o0 o1 o2 o3 o4 o5 : List ℕ) → o0 ≡ [] →
+    o1 ≡ o0 ++ codes "! " → o2 ≡ o1 ++ name → o3 ≡ o2 ++ codes " IOS\n" → o4 ≡ o3 ++ lists_text hardwares lists → o5 ≡ o4 ++ flat_map binding_text hardwares → o5 ≡ device_text name hardwares lists
+device_is_put name hardwares lists o0 o1 o2 o3 o4 o5 e0 e1 e2 e3 e4 e5 =
+    e5 ∙ ap (λ l. l ++ flat_map binding_text hardwares) (e4 ∙ ap (λ l. l ++ lists_text hardwares lists) (e3 ∙ ap (λ l. l ++ codes " IOS\n") (e2 ∙ ap (λ l. l ++ name) (e1 ∙ ap (λ l. l ++ codes "! ") e0))))
+
+pub summary_is_put : (c : Counts) (o0 o1 o2 o3 o4 o5 o6 o7 : List ℕ) → o0 ≡ [] →
+    o1 ≡ o0 ++ count_line (codes "networks ") c.networks → o2 ≡ o1 ++ count_line (codes "zones ") c.zones → o3 ≡ o2 ++ count_line (codes "routers ") c.routers → o4 ≡ o3 ++ count_line (codes "permits ") c.permits →
+    o5 ≡ o4 ++ count_line (codes "local ") c.local → o6 ≡ o5 ++ count_line (codes "lines ") c.lines → o7 ≡ o6 ++ count_line (codes "routes ") c.routes → o7 ≡ summary_text c
+unfolding summary_text
+summary_is_put c o0 o1 o2 o3 o4 o5 o6 o7 e0 e1 e2 e3 e4 e5 e6 e7 =
+    e7 ∙ ap (λ l. l ++ count_line (codes "routes ") c.routes) (e6 ∙ ap (λ l. l ++ count_line (codes "lines ") c.lines) (e5 ∙ ap (λ l. l ++ count_line (codes "local ") c.local)
+      (e4 ∙ ap (λ l. l ++ count_line (codes "permits ") c.permits) (e3 ∙ ap (λ l. l ++ count_line (codes "routers ") c.routers) (e2 ∙ ap (λ l. l ++ count_line (codes "zones ") c.zones) (e1 ∙ ap (λ l. l ++ count_line (codes "networks ") c.networks) e0))))))
+
+pub both : (a b : List ℕ) (m n : ℕ) → a ≡ b → m ≡ n → ◌≡◌ {A = List ℕ × ℕ} (a, m) (b, n)
+both a b m n e f = let P : List ℕ → List ℕ × ℕ = λ l. (l, m) in let Q : ℕ → List ℕ × ℕ = λ k. (b, k) in ap P e ∙ ap Q f
+
+counts : ℕ → ℕ → ℕ → ℕ → ℕ → Counts
+counts n z p l k = record { networks = n; zones = z; routers = 1; permits = p; local = l; lines = k; routes = 0 }
+
+pub same_counts : (n n' z z' p p' l l' k : ℕ) → n ≡ n' → z ≡ z' → p ≡ p' → l ≡ l' →
+    ◌≡◌ {A = Counts} (record { networks = n; zones = z; routers = 1; permits = p; local = l; lines = k; routes = 0 }) (record { networks = n'; zones = z'; routers = 1; permits = p'; local = l'; lines = k; routes = 0 })
+unfolding counts
+same_counts n n' z z' p p' l l' k a b c d =
+    ap (λ m. counts m z p l k) a ∙ ap (λ m. counts n' m p l k) b ∙ ap (λ m. counts n' z' m l k) c ∙ ap (λ m. counts n' z' p' m k) d

@@ -1,0 +1,14 @@
+use Rattle.std.proofs.Common.{◌≡◌, ◌≤◌, ◌+◌, ◌-◌, length, map}
+use Rattle.compile_core.specs.Reading.{read_up_to, read_all, read_interface}
+use Rattle.compile_core.specs.Seen.{toks_of, interface_of}
+use Rattle.compile_core.proofs.Items.{behind_items}
+use Rattle.compile_core.proofs.reading.Parser.interfaces.Given as goal
+
+abbrev pub invariant-items : goal.invariant-items
+invariant-items l = record {
+  shorter : length l.found.items + length l.self.rest.now ≤ length l.fn.self.rest.now;
+  read : behind_items (map interface_of l.found.items) (read_up_to read_interface (length l.fn.self.rest.now - length l.found.items) (toks_of l.self.rest.now)) ≡ read_all read_interface (toks_of l.fn.self.rest.now);
+}
+
+abbrev pub decreases-items : goal.decreases-items
+decreases-items l = length l.self.rest.now

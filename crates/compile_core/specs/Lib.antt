@@ -1,0 +1,9 @@
+pub mod Words
+pub mod Narrow
+pub mod Reading
+pub mod Consistent
+pub mod Entries
+pub mod DeviceText
+pub mod Seen
+pub mod Outcome
+pub mod Answer

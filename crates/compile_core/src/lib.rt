@@ -1,0 +1,19 @@
+//! From the sources of a policy to the files of its devices.
+//!
+//! So far a policy is one file of a narrow form: networks, one managed router that runs IOS, and
+//! services by TCP from one network to another.
+#![tactic(auto)]
+
+mod compiling;
+mod consistent;
+mod entry;
+mod lists;
+mod names;
+mod reading;
+mod text;
+mod words;
+
+#[cfg(test)]
+mod tests;
+
+pub use compiling::{Compiled, DeviceFile, Summary, compile, summary_text};
