@@ -6,6 +6,7 @@
 
 mod compiling;
 mod consistent;
+mod distinct;
 mod entry;
 mod lists;
 mod names;
@@ -16,4 +17,5 @@ mod words;
 #[cfg(test)]
 mod tests;
 
+pub use distinct::device_files_have_distinct_names;
 pub use compiling::{Compiled, DeviceFile, Summary, compile, summary_text};

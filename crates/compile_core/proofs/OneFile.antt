@@ -1,0 +1,36 @@
+-- There is one device file.
+use Rattle.std.proofs.Common.{◌≡◌, ℕ, Bool, true, false, List, [], ◌∷◌, Option, Some, None, Result, Ok, Err, cond, subst, ap}
+use Rattle.std.specs.Str.{bytes_eq}
+use Rattle.std.specs.List.{IsDistinct}
+use Rattle.spoc_base.specs.declared.fault.Fault.{Fault}
+use Rattle.spoc_base.specs.declared.fault.Fault.TheVariants.{Form, Names}
+use Rattle.spoc_lexer.specs.Tokens.{Tok, tokens_of}
+use Rattle.compile_core.specs.Narrow.{Narrow}
+use Rattle.compile_core.specs.Reading.{read_narrow}
+use Rattle.compile_core.specs.Consistent.{is_inconsistent}
+use Rattle.compile_core.specs.Outcome.{Written, written, outcome_of, outcome_of_tokens, outcome_of_narrow}
+use Rattle.compile_core.specs.FileNames.{FilesHaveDistinctNames, file_names}
+
+one_name : (f : Narrow) → IsDistinct bytes_eq (file_names (written f))
+unfolding IsDistinct
+one_name f = (tt, tt)
+
+fault_or : (b : Bool) (f : Narrow) (w : Written) → cond {A = Result Written Fault} b (Err Names) (Ok (written f)) ≡ Ok w → IsDistinct bytes_eq (file_names w)
+fault_or true f w e = cc
+fault_or false f w e = subst (λ w. IsDistinct bytes_eq (file_names w)) (ok_is (written f) w e) (one_name f)
+  where
+    ok_is : (a b : Written) → ◌≡◌ {A = Result Written Fault} (Ok a) (Ok b) → a ≡ b
+    ok_is a b e = cc
+
+narrow_or : (o : Option Narrow) (w : Written) → outcome_of_narrow o ≡ Ok w → IsDistinct bytes_eq (file_names w)
+narrow_or None w e = cc
+narrow_or (Some f) w e = fault_or (is_inconsistent f) f w e
+
+tokens_or : (r : Result (List Tok) ℕ) (w : Written) → outcome_of_tokens r ≡ Ok w → IsDistinct bytes_eq (file_names w)
+tokens_or (Err offset) w e = cc
+tokens_or (Ok toks) w e = narrow_or (read_narrow toks) w e
+
+pub distinct_names : FilesHaveDistinctNames
+distinct_names [] w e = cc
+distinct_names (s ∷ []) w e = tokens_or (tokens_of s.1) w e
+distinct_names (s ∷ r ∷ sources) w e = cc
