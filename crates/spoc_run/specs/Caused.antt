@@ -3,9 +3,8 @@ use Rattle.std.specs.Prelude.{◌≡◌, ◌⊎◌, ℕ, Bool, true, false, ◌=
 use Rattle.std.specs.Option.{ForSome}
 use Rattle.spoc_io.specs.Causes.{Rose, BothTold}
 use Rattle.spoc_io.specs.Files.{Files, GrowsPart}
-use Rattle.compile_core.specs.Outcome.{outcome_of}
 use Rattle.spoc_run.specs.Policy.{policy_of, first_large, most_of_all}
-use Rattle.spoc_run.specs.Outcome.{is_compile, is_accepted, device_files, text_of}
+use Rattle.spoc_run.specs.Outcome.{compiled_of, is_compile, is_accepted, device_files, text_of}
 
 -- a status that is answered where nothing fails to be written
 abbrev pub is_status : ℕ → Bool
@@ -14,8 +13,8 @@ is_status status = status == 0 || (status == 1 || (status == 2 || (status == 3 |
 -- What the policy's files are where a status comes: accepted where it is done, refused where there is a fault, each and all within
 -- the limits at both, and one past a limit at the last.
 pub record IsDue (status : ℕ) (sources : Files) : Type 0 where
-  pub done : status ≡ 0 → is_accepted (outcome_of sources) ≡ true
-  pub fault : status ≡ 1 → is_accepted (outcome_of sources) ≡ false
+  pub done : status ≡ 0 → is_accepted (compiled_of sources) ≡ true
+  pub fault : status ≡ 1 → is_accepted (compiled_of sources) ≡ false
   pub small : status ≡ 0 ⊎ status ≡ 1 → first_large most_of_all sources ≡ None
   pub large : status ≡ 9 → IsSome (first_large most_of_all sources)
 
@@ -34,7 +33,7 @@ InsteadOf Caused files before after = (status : ℕ) × Caused status × ForSome
 
 -- the device files of a policy folder
 abbrev pub files_of : Files → Files
-files_of files = device_files (outcome_of (policy_of files))
+files_of files = device_files (compiled_of (policy_of files))
 
 -- no count of failed calls rose: of reads, of puts and of writes
 pub record NothingFailed (reads reads' puts puts' writes writes' : ℕ) : Type 0 where
@@ -48,4 +47,4 @@ is_either first second status = status == first || status == second
 
 -- The status of a policy that was read: done or refused as it says, or want of memory.
 abbrev pub IsSettled : Files → ℕ → Type 0
-IsSettled sources status = first_large most_of_all sources ≡ None → IsTrue (is_either (if is_accepted (outcome_of sources) then 0 else 1) 5 status)
+IsSettled sources status = first_large most_of_all sources ≡ None → IsTrue (is_either (if is_accepted (compiled_of sources) then 0 else 1) 5 status)

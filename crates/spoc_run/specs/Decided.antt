@@ -3,22 +3,22 @@ use Rattle.std.specs.Prelude.{◌≡◌, ℕ, ◌==◌, ◌||◌, IsTrue, List, 
 use Rattle.std.specs.Str.{bytes_eq}
 use Rattle.std.specs.List.{IsDistinct}
 use Rattle.spoc_io.specs.Files.{Files, paths}
-use Rattle.compile_core.specs.Outcome.{Written, outcome_of}
-use Rattle.spoc_run.specs.Outcome.{is_accepted, device_files, policy_text}
+use Rattle.compile_core.specs.Outcome.{Written}
+use Rattle.spoc_run.specs.Outcome.{compiled_of, is_accepted, device_files, policy_text}
 use Rattle.spoc_run.specs.declared.load.LoadFail.{LoadFail}
 use Rattle.spoc_run.specs.declared.load.LoadFail.TheVariants.{Read, Large, Memory}
 
 -- what an accepted policy compiles to, whose files have distinct names
 pub record IsCompiled (sources : Files) (written : Written) : Type 0 where
-  pub is : outcome_of sources ≡ Ok written
+  pub is : compiled_of sources ≡ Ok written
   pub names : IsDistinct bytes_eq (paths written.files)
 
 -- for a policy that was read
 pub record AnswersSources (sources : Files) (status : ℕ) (text : List ℕ) (files : Files) : Type 0 where
   pub known : IsTrue (status == 0 || (status == 1 || status == 5))
-  pub accepted : status ≡ 0 → is_accepted (outcome_of sources) ≡ true
-  pub refused : status ≡ 1 → is_accepted (outcome_of sources) ≡ false
-  pub written : status ≡ 0 → files ≡ device_files (outcome_of sources)
+  pub accepted : status ≡ 0 → is_accepted (compiled_of sources) ≡ true
+  pub refused : status ≡ 1 → is_accepted (compiled_of sources) ≡ false
+  pub written : status ≡ 0 → files ≡ device_files (compiled_of sources)
   pub summary : status ≡ 0 → policy_text 0 sources ≡ Some text
   pub fault : status ≡ 1 → policy_text 1 sources ≡ Some text
   pub memory : status ≡ 5 → text ≡ codes "memory\n"

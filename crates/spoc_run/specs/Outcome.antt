@@ -13,6 +13,10 @@ abbrev pub is_compile : List (List ℕ) → Bool
 is_compile (form ∷ policy ∷ code ∷ []) = bytes_eq form (codes "compile") && (not (length policy == 0) && not (length code == 0))
 is_compile words = false
 
+-- what the policy's files compile to: the device files and the summary's counts, or a fault
+unfoldable pub compiled_of : Files → Result Written Fault
+compiled_of sources = outcome_of sources
+
 -- the policy is accepted
 abbrev pub is_accepted : Result Written Fault → Bool
 is_accepted (Ok written) = true
@@ -36,8 +40,8 @@ refusal_of sources (Err fault) = Some (fault_line sources fault)
 -- the text of a status that depends on the policy's files
 abbrev pub policy_text : ℕ → Files → Option (List ℕ)
 policy_text status sources =
-    if status == 0 then summary_of (outcome_of sources)
-    else if status == 1 then refusal_of sources (outcome_of sources)
+    if status == 0 then summary_of (compiled_of sources)
+    else if status == 1 then refusal_of sources (compiled_of sources)
     else if status == 9 then option_map (λ path. codes "too large " ++ path ++ codes "\n") (first_large most_of_all sources)
     else None
 

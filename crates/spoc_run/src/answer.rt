@@ -1,17 +1,16 @@
-ghost use Rattle.std.specs.Prelude.{◌≡◌, ◌≤◌, [], map, length, Err};
+ghost use Rattle.std.specs.Prelude.{◌≡◌, ◌≤◌, [], map, length, Err, IfOk, IfErr};
 ghost use Rattle.std.specs.Str.{bytes_eq};
 ghost use Rattle.std.specs.List.{IsDistinct, All};
 ghost use Rattle.spoc_run.specs.Policy.{most_of_one};
 ghost use Rattle.spoc_io.specs.Files.{paths};
-ghost use Rattle.compile_core.specs.Answer.{pair_of, file_of, written_of};
-ghost use Rattle.compile_core.specs.Outcome.{outcome_of};
+ghost use Rattle.compile_core.specs.Answer.{pair_of, file_of, written_of, IsRefusalOf};
+ghost use Rattle.spoc_run.specs.Outcome.{compiled_of};
 ghost use Rattle.spoc_run.specs.Answer.{bytes_of_message};
 ghost use Rattle.spoc_run.specs.Decided.{IsCompiled, AnswersSources, AnswersFail};
 
 use crate::load::LoadFail;
 use crate::texts::{fault_line, too_large};
-use compile_core::compile::compile;
-use compile_core::{Compiled, DeviceFile, summary_text};
+use compile_core::{Compiled, DeviceFile, compile, device_files_have_distinct_names, summary_text};
 use spoc_base::{Fault, Refusal, Row, Source, Text};
 use std::alloc::Global;
 
@@ -64,6 +63,16 @@ pub fn plain(alloc: Global, status: u8, text: Message) -> Answer
     }
 }
 
+// What the sources compile to.
+fn compile_sources(alloc: Global, sources: &[Source]) -> Result<Compiled, Refusal>
+    requires { All (λ s. length s.text ≤ most_of_one) sources.now }
+    ensures ok { IfOk result (λ c. IsCompiled (map pair_of sources.now) (written_of c)) }
+    ensures refused { IfErr result (IsRefusalOf (λ fault. compiled_of (map pair_of sources.now) ≡ Err fault)) }
+{
+    device_files_have_distinct_names();
+    compile(alloc, sources)
+}
+
 // The answer for a policy that is accepted.
 fn answer_for_compiled(alloc: Global, sources: &[Source], compiled: Compiled) -> Answer
     requires { IsCompiled (map pair_of sources.now) (written_of compiled) }
@@ -81,7 +90,7 @@ fn answer_for_compiled(alloc: Global, sources: &[Source], compiled: Compiled) ->
 
 // The answer for a policy that is refused.
 fn answer_for_fault(alloc: Global, sources: &[Source], fault: Fault) -> Answer
-    requires { outcome_of (map pair_of sources.now) ≡ Err fault }
+    requires { compiled_of (map pair_of sources.now) ≡ Err fault }
     ensures { AnswersSources (map pair_of sources.now) result.status (bytes_of_message result.text) (map file_of result.files) }
 {
     match fault_line(alloc, sources, fault) {
@@ -95,7 +104,7 @@ pub fn answer_for_sources(alloc: Global, sources: &[Source]) -> Answer
     requires { All (λ s. length s.text ≤ most_of_one) sources.now }
     ensures { AnswersSources (map pair_of sources.now) result.status (bytes_of_message result.text) (map file_of result.files) }
 {
-    match compile(alloc, sources) {
+    match compile_sources(alloc, sources) {
         Ok(compiled) => answer_for_compiled(alloc, sources, compiled),
         Err(Refusal::Policy(fault)) => answer_for_fault(alloc, sources, fault),
         Err(Refusal::Memory) => plain(alloc, 5, Message::NoRoom),
