@@ -1,13 +1,11 @@
-// A library with one function.
+//! Networks by their prefixes: the longest match of an address, the next enclosing network, and the
+//! networks inside a prefix.
 #![tactic(auto)]
 
-ghost use Rattle.std.specs.Prelude.{◌≡◌};
-ghost use Rattle.subnet_tree.specs.Echo.{echo_of};
+mod fail;
+mod nodes;
+mod order;
+mod tree;
 
-// The `ensures` clause is the contract: what `echo` returns is `echo_of` of its argument, a definition
-// in `specs/Echo.antt`, which a caller's clause can cite too.
-pub fn echo(x: usize) -> usize
-    ensures { result ≡ echo_of x }
-{
-    x
-}
+pub use fail::TreeFail;
+pub use tree::Tree;
