@@ -1,7 +1,7 @@
 -- The entries in order answer as the items do.
-use Rattle.std.proofs.Common.{◌≡◌, ◌≢◌, ℕ, zero, suc, ◌+◌, ◌<◌, ◌≤◌, ◌⊎◌, inl, inr, Bool, true, false, cond, ◌&&◌, List, [], ◌∷◌, length, map, refl, sym, ap, subst, ◌∙◌, ⊎_elim, arith}
-use Rattle.std.specs.Prelude.{Option, Some, None, ◌==◌, nat_le, nat_lt, filter, find, option_map, slice_index_or}
-use Rattle.std.specs.List.{AllPairs, Contains}
+use Rattle.std.proofs.Common.{◌≡◌, ◌≢◌, ℕ, zero, suc, ◌<◌, ◌≤◌, ◌⊎◌, inl, inr, true, cond, List, length, map, refl, sym, ap, subst, ◌∙◌, ⊎_elim, arith}
+use Rattle.std.specs.Prelude.{Option, Some, None, ◌==◌, nat_lt, filter, option_map, slice_index_or}
+use Rattle.std.specs.List.{Contains}
 use Rattle.std.specs.List.Sorted.{IsPermutation}
 use Rattle.std.specs.Option.{option_and_then}
 use Rattle.std.proofs.lemmas.List.{get_or-map, length-map}
@@ -11,7 +11,7 @@ use Rattle.std.proofs.lemmas.Bool.{and_parts, and_from, cases_lt, cases_eq, ltb-
 use Rattle.spoc_base.specs.Address.{Cidr, IsCidr, prefix_holds, is_inside}
 use Rattle.policy_model.proofs.AllWalks.{IsIn}
 use Rattle.list_laws.proofs.Nesting.{holds_parts, holds_net, inside_from, inside_parts}
-use Rattle.subnet_tree.specs.Entries.{Entry, no_entry, entry_at, HaveDistinctNumbers, HaveDistinctPrefixes, Precedes, AreInOrder, longest, place_in, encloses, parent_in}
+use Rattle.subnet_tree.specs.Entries.{Entry, no_entry, HaveDistinctNumbers, HaveDistinctPrefixes, Precedes, AreInOrder, longest, place_in, encloses, parent_in}
 use Rattle.subnet_tree.specs.Knots.{Knot, no_knot, knot_at, last_below, last_holding, AreKnots, entry_of_knot, above_at, assigned}
 use Rattle.subnet_tree.proofs.Climbing.{IsLast, last_found, last_none}
 use Rattle.subnet_tree.proofs.Sorting.{cidr_equal}

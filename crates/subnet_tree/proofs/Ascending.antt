@@ -1,5 +1,5 @@
 -- A list in ascending order is determined by how often each number stands there.
-use Rattle.std.proofs.Common.{◌≡◌, ℕ, zero, suc, ◌+◌, ◌<◌, ◌≤◌, ◌⊎◌, inl, inr, Bool, true, false, cond, ◌&&◌, List, [], ◌∷◌, length, map, refl, sym, ap, subst, ◌∙◌, ⊎_elim, arith}
+use Rattle.std.proofs.Common.{◌≡◌, ℕ, suc, ◌+◌, ◌<◌, ◌≤◌, ◌⊎◌, inl, inr, Bool, true, false, cond, List, [], ◌∷◌, length, map, refl, sym, ap, ◌∙◌, ⊎_elim, arith}
 use Rattle.std.specs.Prelude.{◌==◌, nat_lt, filter, slice_index_or}
 use Rattle.std.specs.List.{sum_by}
 use Rattle.std.specs.List.Sorted.{IsPermutation, IsNonDecreasingBy}
@@ -138,15 +138,17 @@ permuted_inside items es p perm =
 
 ascends_from : (xs : List NetId) → IsNonDecreasingBy (λ (n : NetId). n.0) xs → Ascends (map net_of xs)
 ascends_from [] up = tt
-ascends_from (x ∷ xs) up =
-    (λ y h.
-    let w = in_contains (map net_of xs) y h in
-    let b = w.1 in
-    let n = length-map xs net_of in
-    let below : w.0 < length xs = omega (arith, b, n) in
-    let k = up 0 (suc w.0) x (omega arith) (omega (arith, below)) in
-    let e : (slice_index_or xs w.0 x).0 ≡ y = sym (get_or-map net_of xs w.0 x y below) ∙ w.2 in
-    omega (arith, k, e), ascends_from xs (λ i j d le below. up (suc i) (suc j) d (omega (arith, le)) (omega (arith, below))))
+ascends_from (x ∷ xs) up = (
+  λ y h.
+      let w = in_contains (map net_of xs) y h in
+      let b = w.1 in
+      let n = length-map xs net_of in
+      let below : w.0 < length xs = omega (arith, b, n) in
+      let k = up 0 (suc w.0) x (omega arith) (omega (arith, below)) in
+      let e : (slice_index_or xs w.0 x).0 ≡ y = sym (get_or-map net_of xs w.0 x y below) ∙ w.2 in
+      omega (arith, k, e),
+  ascends_from xs (λ i j d le below. up (suc i) (suc j) d (omega (arith, le)) (omega (arith, below))),
+)
 
 pub sorted_found : (found new : List NetId) (wanted : List ℕ) → IsPermutation found new → IsNonDecreasingBy (λ (n : NetId). n.0) new → map net_of found ≡ wanted → map net_of new ≡ sorted_by nat_lt wanted
 sorted_found found new wanted perm up e =

@@ -1,18 +1,18 @@
 -- The nodes as knots, for the functions that make and read them.
-use Rattle.std.proofs.Common.{◌≡◌, ℕ, zero, suc, ◌+◌, ◌-◌, ◌<◌, ◌≤◌, Bool, true, false, cond, List, [], ◌∷◌, ◌++◌, length, length-append, length-take-le, map, take, refl, sym, ap, subst, ◌∙◌, ⊎_elim, arith, append-nil}
-use Rattle.std.specs.Prelude.{Option, Some, None, ◌==◌, nat_le, nat_lt, slice_index_or, filter, option_map, IfSome}
+use Rattle.std.proofs.Common.{◌≡◌, ℕ, zero, suc, ◌+◌, ◌<◌, ◌≤◌, Bool, true, false, cond, List, [], ◌∷◌, ◌++◌, length, length-append, length-take-le, map, take, refl, sym, ap, subst, ◌∙◌, ⊎_elim, arith, append-nil}
+use Rattle.std.specs.Prelude.{Option, Some, None, ◌==◌, nat_le, slice_index_or, filter, option_map, IfSome}
 use Rattle.std.specs.List.Sorted.{IsNonDecreasingBy}
 use Rattle.std.proofs.lemmas.List.{get_or-map, length-map, map-append, take_more, get_or-take, take_all}
 use Rattle.std.proofs.lemmas.List.Elements.{filter-append}
-use Rattle.std.proofs.lemmas.Bool.{and_parts, cases_lt, leb-true, ltb-true, both_ways, false_from_ne_true}
-use Rattle.spoc_base.specs.Address.{Cidr, Interval, size_of, addresses, prefix_holds, is_inside}
+use Rattle.std.proofs.lemmas.Bool.{and_parts, cases_lt, false_from_ne_true}
+use Rattle.spoc_base.specs.Address.{Cidr, addresses, prefix_holds, is_inside}
 use Rattle.spoc_base.specs.Shown.{cidr_of}
 use Rattle.spoc_base.specs.declared.address.Prefix.{Prefix}
 use Rattle.spoc_base.specs.declared.ids.NetId.{NetId}
 use Rattle.list_laws.proofs.Nesting.{holds_parts}
 use Rattle.subnet_tree.specs.Entries.{Entry, AreInOrder, no_entry, entry_at}
 use Rattle.subnet_tree.specs.Knots.{Knot, no_knot, knot_at, last_below, last_holding, AreKnots, entry_of_knot, picked, above_at, assigned}
-use Rattle.subnet_tree.specs.Shown.{knot_of, entry_of, net_of}
+use Rattle.subnet_tree.specs.Shown.{knot_of, entry_of}
 use Rattle.subnet_tree.specs.declared.nodes.Node.{Node}
 use Rattle.subnet_tree.proofs.Climbing.{last_found, last_same, skipped, at_node}
 

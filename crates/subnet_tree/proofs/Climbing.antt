@@ -1,10 +1,9 @@
 -- Going up from an entry to the last one that holds an address.
-use Rattle.std.proofs.Common.{◌≡◌, ℕ, zero, suc, ◌+◌, ◌<◌, ◌≤◌, Bool, true, false, cond, List, length, map, refl, sym, ap, subst, ◌∙◌, ⊎_elim, arith}
-use Rattle.std.specs.Prelude.{Option, Some, None, nat_le, nat_lt, slice_index_or}
+use Rattle.std.proofs.Common.{◌≡◌, ℕ, zero, suc, ◌<◌, ◌≤◌, Bool, true, false, cond, List, length, map, refl, sym, ap, subst, ◌∙◌, ⊎_elim, arith}
+use Rattle.std.specs.Prelude.{Option, Some, None, slice_index_or}
 use Rattle.std.proofs.lemmas.List.{get_or-map, length-map}
-use Rattle.std.proofs.lemmas.Bool.{and_parts, and_from, cases_lt, leb-true, le-leb, ltb-true, lt-ltb, both_ways, false≢true, false_from_ne_true}
-use Rattle.spoc_base.specs.Address.{Cidr, size_of, prefix_holds}
-use Rattle.list_laws.proofs.Members.{same_truth}
+use Rattle.std.proofs.lemmas.Bool.{cases_lt, both_ways, false_from_ne_true}
+use Rattle.spoc_base.specs.Address.{Cidr, prefix_holds}
 use Rattle.list_laws.proofs.Nesting.{holds_parts, holds_from}
 use Rattle.spoc_base.specs.Shown.{cidr_of}
 use Rattle.subnet_tree.specs.Knots.{Knot, no_knot, knot_at, last_below, last_holding, AreKnots}

@@ -1,11 +1,11 @@
 -- The longest of a list, and what a permutation keeps.
-use Rattle.std.proofs.Common.{◌≡◌, ◌≢◌, ℕ, zero, suc, ◌+◌, ◌<◌, ◌≤◌, ◌⊎◌, inl, inr, Bool, true, false, cond, List, [], ◌∷◌, length, map, refl, sym, ap, subst, ◌∙◌, ⊎_elim, arith}
-use Rattle.std.specs.Prelude.{Option, Some, None, ◌==◌, nat_lt, filter, find, option_map, slice_index_or}
-use Rattle.std.specs.List.{AllPairs, Contains, fold, sum_by}
+use Rattle.std.proofs.Common.{◌≡◌, ◌≢◌, ℕ, zero, suc, ◌<◌, ◌≤◌, ◌⊎◌, inl, inr, Bool, true, false, cond, List, [], ◌∷◌, length, refl, sym, ap, ◌∙◌, ⊎_elim, arith}
+use Rattle.std.specs.Prelude.{Some, None, ◌==◌, nat_lt, filter, find, option_map, slice_index_or}
+use Rattle.std.specs.List.{Contains, fold, sum_by}
 use Rattle.std.specs.List.Sorted.{IsPermutation}
 use Rattle.std.proofs.lemmas.List.Sorted.{sum_by-IsPermutation}
 use Rattle.std.proofs.lemmas.List.Sums.{sum_by-cons, get_or-le-sum_by}
-use Rattle.std.proofs.lemmas.Bool.{cases_lt, ltb-true, lt-ltb, eqb-true, eq-eqb, both_ways, false≢true, false_from_ne_true}
+use Rattle.std.proofs.lemmas.Bool.{ltb-true, lt-ltb, eqb-true, eq-eqb, both_ways, false_from_ne_true}
 use Rattle.policy_model.specs.Places.{longest_by}
 use Rattle.policy_model.proofs.AllWalks.{IsIn, in_filter}
 use Rattle.list_laws.proofs.Members.{from_filter}

@@ -1,6 +1,6 @@
 -- The parts that are built make a tree.
-use Rattle.std.proofs.Common.{◌≡◌, ℕ, ◌-◌, ◌<◌, List, [], ◌∷◌, length, map, refl, sym, ap, subst, ◌∙◌, arith, nat_eq}
-use Rattle.std.specs.Prelude.{Option, Some, None, option_map, slice_index_or}
+use Rattle.std.proofs.Common.{◌≡◌, ℕ, ◌-◌, ◌<◌, List, [], ◌∷◌, length, map, sym, ap, subst, ◌∙◌, arith, nat_eq}
+use Rattle.std.specs.Prelude.{Some, None, option_map, slice_index_or}
 use Rattle.std.specs.List.Sorted.{IsPermutation}
 use Rattle.std.specs.HashMap.{HashMap, get}
 use Rattle.std.specs.declared.hash.FoldHasher.{FoldHasher}
@@ -10,7 +10,7 @@ use Rattle.std.proofs.lemmas.List.Sorted.{IsPermutation-map}
 use Rattle.spoc_base.specs.Address.{IsCidr}
 use Rattle.spoc_base.specs.declared.address.Prefix.{Prefix}
 use Rattle.spoc_base.specs.declared.ids.NetId.{NetId}
-use Rattle.subnet_tree.specs.Entries.{Entry, HaveDistinctNumbers, HaveDistinctPrefixes, AreInOrder, least_of_neighbours, IsLeastSame}
+use Rattle.subnet_tree.specs.Entries.{HaveDistinctNumbers, HaveDistinctPrefixes, AreInOrder, least_of_neighbours, IsLeastSame}
 use Rattle.subnet_tree.specs.Knots.{no_knot, knot_at, AreKnots, entry_of_knot, assigned}
 use Rattle.subnet_tree.specs.Shown.{entry_of, knot_of, net_of, pair_of}
 use Rattle.subnet_tree.specs.Trees.{IsTree}

@@ -1,6 +1,6 @@
 -- The least pair of neighbours with one prefix is the least pair of items with one prefix.
-use Rattle.std.proofs.Common.{◌≡◌, ◌≢◌, ℕ, zero, suc, ◌+◌, ◌-◌, ◌<◌, ◌≤◌, ◌⊎◌, inl, inr, Bool, true, false, cond, ◌&&◌, ◌||◌, List, length, refl, sym, ap, subst, ◌∙◌, ⊎_elim, arith}
-use Rattle.std.specs.Prelude.{Option, Some, None, ◌==◌, nat_lt, slice_index_or}
+use Rattle.std.proofs.Common.{◌≡◌, ℕ, zero, suc, ◌-◌, ◌<◌, ◌≤◌, ◌⊎◌, inl, inr, Bool, true, false, cond, ◌&&◌, List, length, refl, sym, ap, subst, ◌∙◌, ⊎_elim, arith}
+use Rattle.std.specs.Prelude.{Option, Some, None, ◌==◌, nat_lt}
 use Rattle.std.specs.List.{Contains}
 use Rattle.std.specs.List.Sorted.{IsPermutation}
 use Rattle.std.proofs.lemmas.List.{get_or_default}
@@ -8,7 +8,7 @@ use Rattle.std.proofs.lemmas.List.Elements.{Contains-get_or}
 use Rattle.std.proofs.lemmas.List.Sorted.{Contains-permutation, IsPermutation-sym}
 use Rattle.std.proofs.lemmas.Bool.{and_parts, and_from, or_cases, or_left, or_right, cases_lt, cases_eq, ltb-true, lt-ltb, eqb-true, eq-eqb, both_ways}
 use Rattle.spoc_base.specs.Address.{Cidr}
-use Rattle.subnet_tree.specs.Entries.{Entry, no_entry, entry_at, HaveDistinctNumbers, HaveDistinctPrefixes, Precedes, AreInOrder, are_equal, is_before, lesser, lesser_of, least_of_neighbours, IsLeastSame}
+use Rattle.subnet_tree.specs.Entries.{Entry, no_entry, entry_at, HaveDistinctNumbers, HaveDistinctPrefixes, Precedes, AreInOrder, are_equal, is_before, lesser, least_of_neighbours, IsLeastSame}
 use Rattle.subnet_tree.proofs.Sorting.{cidr_equal}
 use Rattle.subnet_tree.proofs.Longest.{distinct_permuted}
 

@@ -1,5 +1,5 @@
 -- What the parts of a tree mean.
-use Rattle.std.specs.Prelude.{◌≡◌, ℕ, List, length, map, Option, option_map, nat_eq}
+use Rattle.std.specs.Prelude.{◌≡◌, ℕ, List, length, map, option_map, nat_eq}
 use Rattle.std.specs.HashMap.{HashMap, get}
 use Rattle.std.specs.declared.hash.FoldHasher.{FoldHasher}
 use Rattle.std.specs.declared.hash.BuildHasherDefault.{BuildHasherDefault}

@@ -5,6 +5,8 @@
 mod fail;
 mod nodes;
 mod order;
+#[cfg(test)]
+mod tests;
 mod tree;
 
 pub use fail::TreeFail;

@@ -47,7 +47,11 @@ pub(crate) fn last_of(nodes: &[Node], end: usize, a: Addr) -> Option<usize>
     ensures last { result ≡ last_holding (map knot_of nodes.now) a.0 end }
     ensures below { IfSome result (λ i. i < end) }
 {
-    if end == 0 { None } else { climb(nodes, end - 1, a) }
+    if end == 0 {
+        None
+    } else {
+        climb(nodes, end - 1, a)
+    }
 }
 
 /// The items, which are in order, each with the place of the one above it.

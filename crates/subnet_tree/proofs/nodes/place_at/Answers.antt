@@ -1,4 +1,4 @@
-use Rattle.std.proofs.Common.{◌<◌, ◌≤◌, sym, ap, ◌∙◌, arith, Some}
+use Rattle.std.proofs.Common.{sym, ap, ◌∙◌, arith, Some}
 use Rattle.subnet_tree.specs.Shown.{net_of}
 use Rattle.subnet_tree.proofs.Building.{found_place, no_place}
 use Rattle.subnet_tree.proofs.nodes.place_at.Goals as goal

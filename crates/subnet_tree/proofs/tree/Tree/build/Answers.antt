@@ -1,8 +1,7 @@
-use Rattle.std.proofs.Common.{◌≡◌, ℕ, ◌-◌, length, map, sym, ap, subst, ◌∙◌, nat_eq, option_map}
-use Rattle.std.specs.HashMap.{get}
+use Rattle.std.proofs.Common.{◌-◌, length, map, ap, ◌∙◌}
 use Rattle.subnet_tree.specs.Entries.{least_of_neighbours}
 use Rattle.subnet_tree.specs.Knots.{assigned}
-use Rattle.subnet_tree.specs.Shown.{entry_of, knot_of, net_of}
+use Rattle.subnet_tree.specs.Shown.{entry_of, knot_of}
 use Rattle.subnet_tree.proofs.Making.{no_two_same, two_same, made_tree}
 use Rattle.subnet_tree.proofs.tree.Tree.build.Goals as goal
 
