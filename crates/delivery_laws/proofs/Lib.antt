@@ -3,5 +3,6 @@ pub mod Turns
 pub mod Ends
 pub mod Refused
 pub mod Arrived
+pub mod AcceptedDeliver
 pub mod AcceptedByTest
 pub mod SmallSiteWhole

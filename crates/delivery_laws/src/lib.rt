@@ -14,7 +14,9 @@ ghost use Rattle.policy_model.specs.Passing.{Config};
 ghost use Rattle.policy_model.specs.Delivery.{delivery, ended_by, NoWalk, Unfinished};
 ghost use Rattle.policy_model.specs.Headline.{Meaning, IsMeaning, permits_in, Delivers, Refuses};
 ghost use Rattle.policy_laws.specs.Secured.{AreSecured, HaveLists};
-ghost use Rattle.policy_laws.specs.Routed.{AreRouted, HaveTables};
+ghost use Rattle.policy_laws.specs.Routed.{AreRouted, IsWired, HaveTables};
+ghost use Rattle.policy_laws.specs.Shaped.{IsShaped};
+ghost use Rattle.policy_model.specs.FirstFault.{IsAccepted};
 
 /// Where all routes are static, an unambiguous packet that is to pass arrives from every start and for every choice of the zones, within as many
 /// crossings as there are managed routers, unless some allowed walk of it makes a detour.
@@ -26,6 +28,12 @@ pub fn packets_arrive()
 /// An unambiguous packet that is not to pass ends at its first device, or is lost after one crossing, whatever the tables are.
 pub fn other_packets_are_refused()
     ensures { (m : Meaning) (configs : List Config) → AreSecured m.site m.views (permits_in m) → HaveLists m.site m.views (permits_in m) configs → Refuses m configs }
+{}
+
+/// So for an accepted policy whose configs decide and send as its own lists and tables.
+pub fn accepted_policies_deliver()
+    ensures { (p : Policy) (m : Meaning) (configs : List Config) → IsMeaning p m → IsShaped p → IsWired p → IsAccepted m → HaveLists m.site m.views (permits_in m) configs →
+        HaveTables m.site m.views (permits_in m) configs → Delivers m configs × Refuses m configs }
 {}
 
 /// Where no allowed walk joins a packet's zones, its delivery ends with that.

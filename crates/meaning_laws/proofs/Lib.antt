@@ -1,0 +1,5 @@
+pub mod Reached
+pub mod Numbered
+pub mod ZonesThere
+pub mod RowsThere
+pub mod MeaningThere
