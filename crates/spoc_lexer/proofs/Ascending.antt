@@ -1,11 +1,11 @@
 -- The tokens of a text begin one behind the other.
-use Rattle.std.proofs.Common.{◌≡◌, ◌≤◌, ◌<◌, ◌+◌, ℕ, zero, suc, Bool, true, false, not, ◌==◌, List, [], ◌∷◌, ◌++◌, Result, Ok, length, map, refl, sym, ap, subst, ◌∙◌, arith, true≢false}
+use Rattle.std.proofs.Common.{◌≡◌, ◌≤◌, ◌<◌, ◌+◌, ℕ, zero, suc, Bool, true, false, List, [], ◌∷◌, ◌++◌, Ok, length, map, refl, sym, subst, ◌∙◌, arith, true≢false}
 use Rattle.std.specs.Prelude.{slice_index}
 use Rattle.std.specs.List.Sorted.{IsStrictlyIncreasing}
 use Rattle.std.proofs.lemmas.List.Elements.{recursion_from_All}
-use Rattle.spoc_lexer.specs.Bytes.{is_blank, is_word, is_sign}
+use Rattle.spoc_lexer.specs.Bytes.{is_word, is_sign}
 use Rattle.spoc_lexer.specs.Tokens.{Tok, tokens_of}
-use Rattle.spoc_lexer.specs.Grammar.{Piece, Blank, Comment, Word, Sign, Text, bytes_of, joined, is_in_line, BeginsWithout, StandsBefore, tokens_from, AreAscending}
+use Rattle.spoc_lexer.specs.Grammar.{Piece, Blank, Comment, Word, Sign, Text, bytes_of, joined, is_in_line, BeginsWithout, tokens_from, AreAscending}
 use Rattle.spoc_lexer.proofs.Standing.{named_behind, open_behind, Follow, follow}
 use Rattle.spoc_lexer.proofs.Dividing.{has_tokens}
 

@@ -1,13 +1,12 @@
 -- A division is read as its tokens.
-use Rattle.std.proofs.Common.{◌≡◌, ◌+◌, ℕ, zero, suc, Bool, true, false, not, ◌==◌, ◌&&◌, ◌||◌, cond, List, [], ◌∷◌, ◌++◌, Result, Ok, Err, length, refl, sym, ap, subst, ◌∙◌, arith, append_assoc, true≢false}
-use Rattle.std.specs.Prelude.{◌≢◌, codes}
+use Rattle.std.proofs.Common.{◌≡◌, ◌+◌, ℕ, Bool, true, false, not, ◌==◌, ◌||◌, cond, List, [], ◌∷◌, ◌++◌, Result, Ok, Err, length, refl, sym, ap, ◌∙◌, arith, append_assoc, true≢false}
+use Rattle.std.specs.Prelude.{◌≢◌}
 use Rattle.std.specs.List.{AllPass, AllByRecursion}
-use Rattle.std.specs.Str.{bytes_eq}
 use Rattle.std.proofs.lemmas.List.{append-nil, length-append}
 use Rattle.std.proofs.lemmas.List.Elements.{recursion_from_All}
 use Rattle.spoc_lexer.specs.Bytes.{is_blank, is_word, is_sign}
-use Rattle.spoc_lexer.specs.Tokens.{Tok, Place, Between, InWord, InComment, InText, after, word, sign, description, between, read, tokens_of}
-use Rattle.spoc_lexer.specs.Grammar.{Piece, Blank, Comment, Word, Sign, Text, bytes_of, joined, is_in_line, BeginsWithout, StandsBefore, is_text, Stand, token_of, tokens_from, Divide, HasTokens, begins_piece, StopsAt}
+use Rattle.spoc_lexer.specs.Tokens.{Tok, Place, Between, InWord, InComment, InText, after, description, read, tokens_of}
+use Rattle.spoc_lexer.specs.Grammar.{Piece, Blank, Comment, Word, Sign, Text, bytes_of, joined, is_in_line, BeginsWithout, StandsBefore, is_text, token_of, tokens_from, Divide, begins_piece, StopsAt}
 use Rattle.spoc_lexer.proofs.Reading.{after-after, run_none, word_done, text_done, comment_done, line_feed, begins_word, begins_sign}
 use Rattle.spoc_lexer.proofs.Standing.{named_behind, open_behind, named_after, Follow, follow}
 

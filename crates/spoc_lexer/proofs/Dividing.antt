@@ -1,12 +1,11 @@
 -- Each text is divided, or up to a byte that begins no piece.
-use Rattle.std.proofs.Common.{◌≡◌, ◌≤◌, ◌+◌, ℕ, zero, suc, Bool, true, false, not, ◌==◌, ◌&&◌, ◌||◌, List, [], ◌∷◌, ◌++◌, Result, Ok, Err, length, refl, sym, ap, subst, ◌∙◌, arith, append_assoc, true≢false}
-use Rattle.std.specs.Prelude.{◌≢◌}
+use Rattle.std.proofs.Common.{◌≡◌, ◌≤◌, ℕ, zero, suc, Bool, true, false, ◌==◌, ◌&&◌, ◌||◌, List, [], ◌∷◌, ◌++◌, Result, Ok, Err, length, refl, sym, ap, subst, ◌∙◌, arith, append_assoc}
 use Rattle.std.specs.List.{AllPass}
 use Rattle.std.proofs.lemmas.List.{append-nil, length-append}
 use Rattle.std.proofs.lemmas.List.Elements.{All-nil, All-cons}
 use Rattle.spoc_lexer.specs.Bytes.{is_blank, is_word, is_sign}
 use Rattle.spoc_lexer.specs.Tokens.{Tok, tokens_of}
-use Rattle.spoc_lexer.specs.Grammar.{Piece, Blank, Comment, Word, Sign, Text, bytes_of, joined, is_in_line, BeginsWithout, StandsBefore, is_text, Stand, tokens_from, Divide, HasTokens, begins_piece, StopsAt}
+use Rattle.spoc_lexer.specs.Grammar.{Piece, Blank, Comment, Word, Sign, Text, bytes_of, joined, is_in_line, BeginsWithout, StandsBefore, is_text, tokens_from, HasTokens, begins_piece, StopsAt}
 use Rattle.spoc_lexer.proofs.Standing.{named_behind, open_behind, Follow, stand}
 use Rattle.spoc_lexer.proofs.Divided.{byte_is, follow_divided, follow_stopped}
 

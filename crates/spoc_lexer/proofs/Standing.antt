@@ -1,11 +1,11 @@
 -- Pieces that stand, from the first one on.
 use Rattle.std.proofs.Common.{◌≡◌, ℕ, Bool, true, false, ◌==◌, ◌&&◌, List, [], ◌∷◌, ◌++◌, ◌⊎◌, refl, sym, ap, subst, ◌∙◌, arith, append_assoc, inl, inr, true≢false}
-use Rattle.std.specs.Prelude.{◌↔◌, codes}
+use Rattle.std.specs.Prelude.{codes}
 use Rattle.std.specs.List.{AllPass, AllByRecursion}
 use Rattle.std.specs.Str.{bytes_eq}
 use Rattle.std.proofs.lemmas.List.Elements.{All-nil, All-cons, recursion_from_All}
 use Rattle.std.proofs.lemmas.Slice.Eq.{bytes_eq-Decides}
-use Rattle.spoc_lexer.specs.Grammar.{Piece, Blank, Comment, Word, Sign, Text, bytes_of, joined, StandsBefore, is_gap, is_text, EndInDescription, OpenText, begins_with_text, Stand}
+use Rattle.spoc_lexer.specs.Grammar.{Piece, Blank, Comment, Word, Sign, Text, joined, StandsBefore, is_gap, is_text, EndInDescription, OpenText, begins_with_text, Stand}
 
 -- whether the last token is the word `description`, one piece later
 abbrev pub named_behind : Bool → Piece → Bool

@@ -11,5 +11,4 @@ pub fn tokens_follow_the_grammar()
     ensures only { (text : List ℕ) (pieces : List Piece) → Divide pieces text → tokens_of text ≡ Ok (tokens_from 0 pieces) }
     ensures stopped { (text : List ℕ) (offset : ℕ) → (tokens_of text ≡ Err offset) ↔ StopsAt text offset }
     ensures one_stop { (text : List ℕ) (offset other : ℕ) → StopsAt text offset → StopsAt text other → offset ≡ other }
-{
-}
+{}

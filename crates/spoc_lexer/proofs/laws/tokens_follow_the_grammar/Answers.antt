@@ -1,4 +1,4 @@
-use Rattle.std.proofs.Common.{◌≡◌, List, ℕ, Result, Ok, Err, sym, ◌∙◌}
+use Rattle.std.proofs.Common.{sym, ◌∙◌}
 use Rattle.spoc_lexer.proofs.Divided.{divided, stops_at}
 use Rattle.spoc_lexer.proofs.Dividing.{has_tokens, stops_there, err_is}
 use Rattle.spoc_lexer.proofs.laws.tokens_follow_the_grammar.Goals as goal
