@@ -10,10 +10,9 @@ mod entry;
 mod lists;
 mod names;
 mod reading;
-mod text;
-mod words;
-
 #[cfg(test)]
 mod tests;
+mod text;
+mod words;
 
 pub use compiling::{Compiled, DeviceFile, Summary, compile, summary_text};
