@@ -1,0 +1,4 @@
+pub mod HeaderBoxes
+pub mod Pieces
+pub mod Shown
+pub mod Blocks
