@@ -51,11 +51,14 @@ module _ {A : Type 0} (f : A → ℕ) (before : A → A → Bool) (Tie : A → A
 
   total_by : (x y : A) → by_number x y ≡ false → by_number y x ≡ false → (f x ≡ f y) × Tie x y
   total_by x y h g =
-      ⊎_elim (λ e. (e, o.total x y
-          (⊎_elim (λ t. absurd (false≢true (sym h ∙ less_from (f x) (f y) (before x y) (inr (e, t))))) (λ t. t) (is_or_not (before x y)))
-          (⊎_elim (λ t. absurd (false≢true (sym g ∙ less_from (f y) (f x) (before y x) (inr (sym e, t))))) (λ t. t) (is_or_not (before y x)))))
-        (λ w. ⊎_elim (λ lt. absurd (false≢true (sym h ∙ less_from (f x) (f y) (before x y) (inl lt)))) (λ gt. absurd (false≢true (sym g ∙ less_from (f y) (f x) (before y x) (inl gt)))) w)
-        (cases_order (f x) (f y))
+      ⊎_elim (λ e. (
+        e,
+        o.total x y
+            (⊎_elim (λ t. absurd (false≢true (sym h ∙ less_from (f x) (f y) (before x y) (inr (e, t))))) (λ t. t) (is_or_not (before x y)))
+            (⊎_elim (λ t. absurd (false≢true (sym g ∙ less_from (f y) (f x) (before y x) (inr (sym e, t))))) (λ t. t) (is_or_not (before y x))),
+      ))
+      (λ w. ⊎_elim (λ lt. absurd (false≢true (sym h ∙ less_from (f x) (f y) (before x y) (inl lt)))) (λ gt. absurd (false≢true (sym g ∙ less_from (f y) (f x) (before y x) (inl gt)))) w)
+      (cases_order (f x) (f y))
 
   pub then_by : IsOrder by_number (λ x y. (f x ≡ f y) × Tie x y)
   then_by = record { never = never_by; trans = trans_by; total = total_by }

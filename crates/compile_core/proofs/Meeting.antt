@@ -92,8 +92,10 @@ module _ {A : Type 0} (meets : A → A → Bool) (own : (x : A) → meets x x �
     where
       same : pairs ys ys ≡ pairs xs xs
       same = sum_by-IsPermutation (hits ys) xs ys p ∙ pairs_same ys xs xs (λ x. sum_by-IsPermutation (λ y. one_if (meets x y)) xs ys p)
+
       size : length ys ≡ length xs
       size = sym (length_by ys) ∙ sum_by-IsPermutation (λ x. 1) xs ys p ∙ length_by xs
+
       by : ((two_by xs ≡ true) × (length xs < pairs xs xs)) ⊎ ((two_by xs ≡ false) × (pairs xs xs ≡ length xs)) →
           ((two_by ys ≡ true) × (length ys < pairs ys ys)) ⊎ ((two_by ys ≡ false) × (pairs ys ys ≡ length ys)) → two_by xs ≡ two_by ys
       by (inl h) (inl g) = h.0 ∙ sym g.0
@@ -161,6 +163,7 @@ two_later p q ps up climbs h =
     next_up : (q : Cidr) (ps : List Cidr) → Climbs (q ∷ ps) → (r : Cidr) (rs : List Cidr) → ps ≡ r ∷ rs → q.net ≤ r.net
     next_up q [] climbs r rs e = cc
     next_up q (x ∷ xs) climbs r rs e = let same : x ≡ r = cc in subst (λ k. q.net ≤ k.net) same climbs.0
+
     tail_climbs : (q : Cidr) (ps : List Cidr) → Climbs (q ∷ ps) → Climbs ps
     tail_climbs q [] climbs = tt
     tail_climbs q (x ∷ xs) climbs = climbs.1

@@ -121,8 +121,8 @@ module _ (E S : List Entry) (p : IsPermutation E S) (c : Climbs S) (u : Unlike i
   runs_sorted i =
       let at = λ (e : Entry). e.iface == i in
       ascending_equal is_before order (filter at S) (sorted_by is_before (filter at E)) (filter_ascends is_before order at S all_ascend) (sorted_ascends is_before order (filter at E) (filter_unlike is_before order at E u))
-        (λ x j. let w = from_filter at x S j in in_sorted is_before x (filter at E) (in_filter at x E (moved_in S E refl (λ y. sym (list_any-IsPermutation (ties y) E S p)) x w.0) w.1))
-        (λ x j. let w = from_filter at x E (from_sorted is_before x (filter at E) j) in in_filter at x S (moved_in E S refl (λ y. list_any-IsPermutation (ties y) E S p) x w.0) w.1)
+      (λ x j. let w = from_filter at x S j in in_sorted is_before x (filter at E) (in_filter at x E (moved_in S E refl (λ y. sym (list_any-IsPermutation (ties y) E S p)) x w.0) w.1))
+      (λ x j. let w = from_filter at x E (from_sorted is_before x (filter at E) j) in in_filter at x S (moved_in E S refl (λ y. list_any-IsPermutation (ties y) E S p) x w.0) w.1)
 
 -- ---- the entries of services are unlike
 
@@ -210,8 +210,8 @@ run_front i (x ∷ xs) a low = by (run_front i xs a.1 (λ y m. low y (inr m))) (
         ap (λ n. take n (x ∷ xs)) one ∙ ap (λ l. x ∷ l) ih
     by ih false e =
         sym (none_kept (is_at i) xs (λ y m. not_eqb y.iface i (λ q.
-            let up = iface_up x y (a.0 y m) in let first = low x (inl refl) in
-            let same : x.iface ≡ i = omega (arith, up, first, q) in false≢true (sym e ∙ eq-eqb x.iface i same))))
+        let up = iface_up x y (a.0 y m) in let first = low x (inl refl) in
+        let same : x.iface ≡ i = omega (arith, up, first, q) in false≢true (sym e ∙ eq-eqb x.iface i same))))
 
 at_or_past : (m i : ℕ) → i ≤ m → (m ≡ i) ⊎ (i + 1 ≤ m)
 at_or_past m i h = ⊎_elim (λ t. inl (eqb-true m i t)) (λ f. inr (grind arith)) (is_or_not (m == i))

@@ -77,9 +77,9 @@ list_is_put f run hardware o0 o1 o2 o3 o4 o5 e1 e2 e3 e4 e5 =
     let head = codes "ip access-list extended " in
     let last : flat_map line_text (deny_all ∷ []) ≡ line_text deny_all = flat_map-cons line_text deny_all [] ∙ append-nil (line_text deny_all) in
     let lines : flat_map line_text (map f run ++ deny_all ∷ []) ≡ flat_map (λ e. line_text (f e)) run ++ line_text deny_all =
-        flat_map-append line_text (map f run) (deny_all ∷ []) ∙ ap (λ l. l ++ flat_map line_text (deny_all ∷ [])) (flat_map_map f run) ∙ ap (λ l. flat_map (λ e. line_text (f e)) run ++ l) last in
+    flat_map-append line_text (map f run) (deny_all ∷ []) ∙ ap (λ l. l ++ flat_map line_text (deny_all ∷ [])) (flat_map_map f run) ∙ ap (λ l. flat_map (λ e. line_text (f e)) run ++ l) last in
     let start : o3 ≡ o0 ++ ((head ++ hardware) ++ codes "_in\n") =
-        e3 ∙ ap (λ l. l ++ codes "_in\n") (e2 ∙ ap (λ l. l ++ hardware) e1) ∙ ap (λ l. l ++ codes "_in\n") (append_assoc o0 head hardware) ∙ append_assoc o0 (head ++ hardware) (codes "_in\n") in
+    e3 ∙ ap (λ l. l ++ codes "_in\n") (e2 ∙ ap (λ l. l ++ hardware) e1) ∙ ap (λ l. l ++ codes "_in\n") (append_assoc o0 head hardware) ∙ append_assoc o0 (head ++ hardware) (codes "_in\n") in
     e5 ∙ ap (λ l. l ++ line_text deny_all) e4 ∙ append_assoc o3 (flat_map (λ e. line_text (f e)) run) (line_text deny_all)
     ∙ ap (λ l. o3 ++ l) (sym lines) ∙ ap (λ l. l ++ flat_map line_text (map f run ++ deny_all ∷ [])) start
     ∙ append_assoc o0 ((head ++ hardware) ++ codes "_in\n") (flat_map line_text (map f run ++ deny_all ∷ []))
@@ -136,11 +136,12 @@ module _ (t : Numbered) (services : List Service) (S : List Entry) (p : IsPermut
   count_here total within so_far =
       let one : sum_by length (after k) ≡ length (lines_at t services k) + sum_by length (after (k + 1)) = ap (sum_by length) first_list ∙ sum_by-cons length (lines_at t services k) (after (k + 1)) in
       let size : length (lines_at t services k) ≡ (end - at) + 1 =
-          ap length (sym lines_here) ∙ length_lines (take (end - at) (drop at S)) ∙ ap (λ m. m + 1) (length_run) in
+      ap length (sym lines_here) ∙ length_lines (take (end - at) (drop at S)) ∙ ap (λ m. m + 1) (length_run) in
       omega (arith, one, size, so_far, ends)
     where
       length_lines : (run : List Entry) → length (map (line_of t services) run ++ deny_all ∷ []) ≡ length run + 1
       length_lines run = length-append (map (line_of t services) run) (deny_all ∷ []) ∙ ap (λ m. m + 1) (length-map run (line_of t services))
+
       length_run : length (take (end - at) (drop at S)) ≡ end - at
       length_run =
           let size : end - at ≡ prefix_len (λ (e : Entry). e.iface == k) (drop at S) = omega (arith, ends) in

@@ -25,7 +25,7 @@ pub summary_is_put : (c : Counts) (o0 o1 o2 o3 o4 o5 o6 o7 : List ℕ) → o0 �
 unfolding summary_text
 summary_is_put c o0 o1 o2 o3 o4 o5 o6 o7 e0 e1 e2 e3 e4 e5 e6 e7 =
     e7 ∙ ap (λ l. l ++ count_line (codes "routes ") c.routes) (e6 ∙ ap (λ l. l ++ count_line (codes "lines ") c.lines) (e5 ∙ ap (λ l. l ++ count_line (codes "local ") c.local)
-      (e4 ∙ ap (λ l. l ++ count_line (codes "permits ") c.permits) (e3 ∙ ap (λ l. l ++ count_line (codes "routers ") c.routers) (e2 ∙ ap (λ l. l ++ count_line (codes "zones ") c.zones) (e1 ∙ ap (λ l. l ++ count_line (codes "networks ") c.networks) e0))))))
+    (e4 ∙ ap (λ l. l ++ count_line (codes "permits ") c.permits) (e3 ∙ ap (λ l. l ++ count_line (codes "routers ") c.routers) (e2 ∙ ap (λ l. l ++ count_line (codes "zones ") c.zones) (e1 ∙ ap (λ l. l ++ count_line (codes "networks ") c.networks) e0))))))
 
 pub both : (a b : List ℕ) (m n : ℕ) → a ≡ b → m ≡ n → ◌≡◌ {A = List ℕ × ℕ} (a, m) (b, n)
 both a b m n e f = let P : List ℕ → List ℕ × ℕ = λ l. (l, m) in let Q : ℕ → List ℕ × ℕ = λ k. (b, k) in ap P e ∙ ap Q f

@@ -65,7 +65,13 @@ fn local(tables: &Tables<'_>, services: &[ServiceDecl<'_>]) -> usize
 }
 
 // The text of the router's file, and how many lines its lists have.
-fn device(alloc: Global, name: &[u8], interfaces: &[InterfaceDecl<'_>], services: &[ServiceDecl<'_>], tables: &Tables<'_>) -> Result<(Vec<u8>, usize), NoMemory>
+fn device(
+    alloc: Global,
+    name: &[u8],
+    interfaces: &[InterfaceDecl<'_>],
+    services: &[ServiceDecl<'_>],
+    tables: &Tables<'_>,
+) -> Result<(Vec<u8>, usize), NoMemory>
     ensures { IfOk result (λ r. (r.0.items, r.1) ≡ device_of (numbered_of tables.now) name.now (map interface_of interfaces.now) (map service_of services.now)) }
 {
     let entries = entries(alloc, tables, services)?;
@@ -78,7 +84,12 @@ fn device(alloc: Global, name: &[u8], interfaces: &[InterfaceDecl<'_>], services
     Ok((out, lines))
 }
 
-fn summarize(networks: &[NetworkDecl<'_>], services: &[ServiceDecl<'_>], tables: &Tables<'_>, lines: usize) -> Summary
+fn summarize(
+    networks: &[NetworkDecl<'_>],
+    services: &[ServiceDecl<'_>],
+    tables: &Tables<'_>,
+    lines: usize,
+) -> Summary
     ensures { counts_of result ≡ counts_in (numbered_of tables.now) (map network_of networks.now) (map service_of services.now) lines }
 {
     let local = local(tables, services);
@@ -98,13 +109,22 @@ fn write(alloc: Global, file: &NarrowFile<'_>, tables: &Tables<'_>) -> Result<Co
     ensures { IfOk result (λ c. written_of c ≡ written (narrow_of file.now)) }
 {
     let services = file.services.as_slice();
-    let (bytes, lines) = device(alloc, file.router.name, file.router.interfaces.as_slice(), services, tables)?;
+    let (bytes, lines) = device(
+        alloc,
+        file.router.name,
+        file.router.interfaces.as_slice(),
+        services,
+        tables,
+    )?;
     let summary = summarize(file.networks.as_slice(), services, tables, lines);
     let name = Text::of(alloc, file.router.name)?;
     let bytes = Text::of(alloc, bytes.as_slice())?;
     let mut files = Vec::new(alloc);
     files.push(DeviceFile { name, bytes })?;
-    Ok(Compiled { files: Row::of(files), summary })
+    Ok(Compiled {
+        files: Row::of(files),
+        summary,
+    })
 }
 
 // What a text of tokens compiles to.

@@ -11,7 +11,10 @@ use crate::reading::{InterfaceDecl, NarrowFile, NetworkDecl, ServiceDecl};
 use spoc_base::{NoMemory, Prefix};
 use std::alloc::{AllocError, Global};
 
-fn network_names<'a>(alloc: Global, networks: &[NetworkDecl<'a>]) -> Result<Vec<&'a [u8]>, AllocError>
+fn network_names<'a>(
+    alloc: Global,
+    networks: &[NetworkDecl<'a>],
+) -> Result<Vec<&'a [u8]>, AllocError>
     ensures { IfOk result (λ names. map (λ name. name.now) names.items ≡ map (λ n. n.name) (map network_of networks.now)) }
 {
     let mut found = Vec::new(alloc);
@@ -21,7 +24,10 @@ fn network_names<'a>(alloc: Global, networks: &[NetworkDecl<'a>]) -> Result<Vec<
     Ok(found)
 }
 
-fn interface_nets<'a>(alloc: Global, interfaces: &[InterfaceDecl<'a>]) -> Result<Vec<&'a [u8]>, AllocError>
+fn interface_nets<'a>(
+    alloc: Global,
+    interfaces: &[InterfaceDecl<'a>],
+) -> Result<Vec<&'a [u8]>, AllocError>
     ensures { IfOk result (λ names. map (λ name. name.now) names.items ≡ map (λ i. i.net) (map interface_of interfaces.now)) }
 {
     let mut found = Vec::new(alloc);
@@ -31,7 +37,10 @@ fn interface_nets<'a>(alloc: Global, interfaces: &[InterfaceDecl<'a>]) -> Result
     Ok(found)
 }
 
-fn hardwares<'a>(alloc: Global, interfaces: &[InterfaceDecl<'a>]) -> Result<Vec<&'a [u8]>, AllocError>
+fn hardwares<'a>(
+    alloc: Global,
+    interfaces: &[InterfaceDecl<'a>],
+) -> Result<Vec<&'a [u8]>, AllocError>
     ensures { IfOk result (λ names. map (λ name. name.now) names.items ≡ map (λ i. i.hardware) (map interface_of interfaces.now)) }
 {
     let mut found = Vec::new(alloc);
@@ -41,7 +50,10 @@ fn hardwares<'a>(alloc: Global, interfaces: &[InterfaceDecl<'a>]) -> Result<Vec<
     Ok(found)
 }
 
-fn service_names<'a>(alloc: Global, services: &[ServiceDecl<'a>]) -> Result<Vec<&'a [u8]>, AllocError>
+fn service_names<'a>(
+    alloc: Global,
+    services: &[ServiceDecl<'a>],
+) -> Result<Vec<&'a [u8]>, AllocError>
     ensures { IfOk result (λ names. map (λ name. name.now) names.items ≡ map (λ s. s.name) (map service_of services.now)) }
 {
     let mut found = Vec::new(alloc);
@@ -212,7 +224,10 @@ fn nets_of<'a>(alloc: Global, networks: &[NetworkDecl<'a>]) -> Result<Option<Nam
 }
 
 // The interfaces by the networks' names.
-fn ports_of<'a>(alloc: Global, interfaces: &[InterfaceDecl<'a>]) -> Result<Option<Names<'a>>, NoMemory>
+fn ports_of<'a>(
+    alloc: Global,
+    interfaces: &[InterfaceDecl<'a>],
+) -> Result<Option<Names<'a>>, NoMemory>
     ensures fits { IfOk result (λ found. is_none found ≡ has_repeat (map (λ i. i.net) (map interface_of interfaces.now))) }
     ensures names { IfOk result (λ found. IfSome found (λ t. t ≡ map (λ i. i.net) (map interface_of interfaces.now))) }
 {

@@ -42,7 +42,12 @@ pub fn prefix_at(tables: &Tables<'_>, n: usize) -> (u32, u8)
 }
 
 // The entries of one service more: a line and one for its replies, or none where it stays in one network.
-fn add(found: &mut Vec<Entry>, tables: &Tables<'_>, service: usize, decl: &ServiceDecl<'_>) -> Result<(), NoMemory>
+fn add(
+    found: &mut Vec<Entry>,
+    tables: &Tables<'_>,
+    service: usize,
+    decl: &ServiceDecl<'_>,
+) -> Result<(), NoMemory>
     ensures { IfOk result (λ _. found.new.items ≡ found.old.items ++ service_entries (numbered_of tables.now) service (service_of decl.now)) }
 {
     let src = tables.names.nets.find(decl.user).unwrap_or(0);
@@ -53,13 +58,31 @@ fn add(found: &mut Vec<Entry>, tables: &Tables<'_>, service: usize, decl: &Servi
         return Ok(());
     }
     let shallow = 64 - (prefix_at(tables, src).1 + prefix_at(tables, dst).1);
-    found.push(Entry { iface: enter, shallow, src, dst, back: false, service })?;
-    found.push(Entry { iface: leave, shallow, src: dst, dst: src, back: true, service })?;
+    found.push(Entry {
+        iface: enter,
+        shallow,
+        src,
+        dst,
+        back: false,
+        service,
+    })?;
+    found.push(Entry {
+        iface: leave,
+        shallow,
+        src: dst,
+        dst: src,
+        back: true,
+        service,
+    })?;
     Ok(())
 }
 
 // All entries, service by service.
-fn all(alloc: Global, tables: &Tables<'_>, services: &[ServiceDecl<'_>]) -> Result<Vec<Entry>, NoMemory>
+fn all(
+    alloc: Global,
+    tables: &Tables<'_>,
+    services: &[ServiceDecl<'_>],
+) -> Result<Vec<Entry>, NoMemory>
     ensures { IfOk result (λ found. found.items ≡ all_entries (numbered_of tables.now) (map service_of services.now)) }
 {
     let mut found = Vec::new(alloc);
@@ -70,7 +93,11 @@ fn all(alloc: Global, tables: &Tables<'_>, services: &[ServiceDecl<'_>]) -> Resu
 }
 
 // All entries, in the order of the lists.
-pub fn entries(alloc: Global, tables: &Tables<'_>, services: &[ServiceDecl<'_>]) -> Result<Vec<Entry>, NoMemory>
+pub fn entries(
+    alloc: Global,
+    tables: &Tables<'_>,
+    services: &[ServiceDecl<'_>],
+) -> Result<Vec<Entry>, NoMemory>
     ensures same { IfOk result (λ found. IsPermutation (all_entries (numbered_of tables.now) (map service_of services.now)) found.items) }
     ensures sorted { IfOk result (λ found. Climbs found.items) }
 {

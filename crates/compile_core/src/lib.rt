@@ -11,11 +11,16 @@ mod entry;
 mod lists;
 mod names;
 mod reading;
+#[cfg(test)]
+mod tests;
 mod text;
 mod words;
 
+<<<<<<< HEAD
 #[cfg(test)]
 mod tests;
 
 pub use distinct::device_files_have_distinct_names;
+=======
+>>>>>>> 9718cac
 pub use compiling::{Compiled, DeviceFile, Summary, compile, summary_text};

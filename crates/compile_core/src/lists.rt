@@ -20,7 +20,12 @@ fn port_at(services: &[ServiceDecl<'_>], k: usize) -> u32
     }
 }
 
-fn put_entry(out: &mut Vec<u8>, tables: &Tables<'_>, services: &[ServiceDecl<'_>], entry: &Entry) -> Result<(), NoMemory>
+fn put_entry(
+    out: &mut Vec<u8>,
+    tables: &Tables<'_>,
+    services: &[ServiceDecl<'_>],
+    entry: &Entry,
+) -> Result<(), NoMemory>
     ensures { IfOk result (λ _. out.new.items ≡ out.old.items ++ line_text (line_of (numbered_of tables.now) (map service_of services.now) entry.now)) }
 {
     let src = prefix_at(tables, entry.src);
@@ -30,7 +35,12 @@ fn put_entry(out: &mut Vec<u8>, tables: &Tables<'_>, services: &[ServiceDecl<'_>
     Ok(())
 }
 
-fn put_lines(out: &mut Vec<u8>, tables: &Tables<'_>, services: &[ServiceDecl<'_>], run: &[Entry]) -> Result<(), NoMemory>
+fn put_lines(
+    out: &mut Vec<u8>,
+    tables: &Tables<'_>,
+    services: &[ServiceDecl<'_>],
+    run: &[Entry],
+) -> Result<(), NoMemory>
     ensures { IfOk result (λ _. out.new.items ≡ out.old.items ++ flat_map (λ e. line_text (line_of (numbered_of tables.now) (map service_of services.now) e)) run.now) }
 {
     for (k, entry) in run.iter().enumerate() {
@@ -40,7 +50,13 @@ fn put_lines(out: &mut Vec<u8>, tables: &Tables<'_>, services: &[ServiceDecl<'_>
 }
 
 // The list at an interface: these entries, and the last deny.
-fn put_list(out: &mut Vec<u8>, hardware: &[u8], tables: &Tables<'_>, services: &[ServiceDecl<'_>], run: &[Entry]) -> Result<(), NoMemory>
+fn put_list(
+    out: &mut Vec<u8>,
+    hardware: &[u8],
+    tables: &Tables<'_>,
+    services: &[ServiceDecl<'_>],
+    run: &[Entry],
+) -> Result<(), NoMemory>
     ensures { IfOk result (λ _. out.new.items ≡ out.old.items ++ list_text hardware.now (map (line_of (numbered_of tables.now) (map service_of services.now)) run.now ++ deny_all ∷ [])) }
 {
     put(out, b"ip access-list extended ")?;
@@ -52,7 +68,13 @@ fn put_list(out: &mut Vec<u8>, hardware: &[u8], tables: &Tables<'_>, services: &
 }
 
 // The lists at all interfaces, and how many lines they have.
-pub fn put_lists(out: &mut Vec<u8>, interfaces: &[InterfaceDecl<'_>], tables: &Tables<'_>, services: &[ServiceDecl<'_>], entries: &[Entry]) -> Result<usize, NoMemory>
+pub fn put_lists(
+    out: &mut Vec<u8>,
+    interfaces: &[InterfaceDecl<'_>],
+    tables: &Tables<'_>,
+    services: &[ServiceDecl<'_>],
+    entries: &[Entry],
+) -> Result<usize, NoMemory>
     requires same { IsPermutation (all_entries (numbered_of tables.now) (map service_of services.now)) entries.now }
     requires sorted { Climbs entries.now }
     ensures text { IfOk result (λ _. out.new.items ≡ out.old.items ++ lists_text (map (λ i. i.hardware) (map interface_of interfaces.now)) (lists_from (numbered_of tables.now) (map service_of services.now) 0 (map interface_of interfaces.now))) }

@@ -26,7 +26,9 @@ impl<'a> Names<'a> {
     pub fn new(alloc: Global) -> Names<'a>
         ensures { result ≡ [] }
     {
-        Names { set: IndexSet::new(alloc) }
+        Names {
+            set: IndexSet::new(alloc),
+        }
     }
 
     // The number of a name.

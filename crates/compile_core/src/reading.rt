@@ -177,7 +177,11 @@ impl<'a, 't> Parser<'a, 't> {
         let hardware = self.word()?;
         self.want(b";")?;
         self.want(b"}")?;
-        Some(InterfaceDecl { net, addr, hardware })
+        Some(InterfaceDecl {
+            net,
+            addr,
+            hardware,
+        })
     }
 
     // `service:N = { user = network:N; permit src = user; dst = network:N; prt = tcp NUMBER; }`
@@ -207,7 +211,12 @@ impl<'a, 't> Parser<'a, 't> {
         let port = self.number()?;
         self.want(b";")?;
         self.want(b"}")?;
-        Some(ServiceDecl { name, user, dst, port })
+        Some(ServiceDecl {
+            name,
+            user,
+            dst,
+            port,
+        })
     }
 
     fn networks(&mut self, alloc: Global) -> Result<Vec<NetworkDecl<'a>>, NoMemory>
@@ -300,7 +309,11 @@ impl<'a, 't> Parser<'a, 't> {
         if !self.is_at_end() {
             return Ok(None);
         }
-        Ok(Some(NarrowFile { networks, router, services }))
+        Ok(Some(NarrowFile {
+            networks,
+            router,
+            services,
+        }))
     }
 }
 

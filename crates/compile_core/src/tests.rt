@@ -5,7 +5,8 @@ use spoc_base::{Fault, Refusal, Source, Text};
 use std::alloc::Global;
 use std::test::Fail;
 
-const HEAD: &[u8] = b"network:n1 = { ip = 10.1.1.0/24; }\nnetwork:n2 = { ip = 10.1.2.0/24; }\nrouter:r1 = {\n managed;\n model = IOS;\n interface:n1 = { ip = 10.1.1.1; hardware = E1; }\n interface:n2 = { ip = 10.1.2.1; hardware = E2; }\n}\n";
+const HEAD: &[u8] =
+    b"network:n1 = { ip = 10.1.1.0/24; }\nnetwork:n2 = { ip = 10.1.2.0/24; }\nrouter:r1 = {\n managed;\n model = IOS;\n interface:n1 = { ip = 10.1.1.1; hardware = E1; }\n interface:n2 = { ip = 10.1.2.1; hardware = E2; }\n}\n";
 
 fn compiled(alloc: Global, text: &[u8]) -> Result<Compiled, Refusal>
     requires { length text.now ≤ 4194304 }
@@ -27,37 +28,54 @@ fn with_service(alloc: Global, service: &[u8]) -> Result<Compiled, Refusal>
 
 #[test]
 fn one_service_between_two_networks(rt: HostRuntime) -> Result<(), Fail> {
-    let service = b"service:s1 = {\n user = network:n1;\n permit src = user; dst = network:n2; prt = tcp 80;\n}\n";
+    let service =
+        b"service:s1 = {\n user = network:n1;\n permit src = user; dst = network:n2; prt = tcp 80;\n}\n";
     let compiled = with_service(rt.alloc(), service)?;
     let files = compiled.files.items();
     assert_eq!(rt; files.len(), 1);
     assert_eq!(rt; files[0].name.bytes(), b"r1".as_slice());
-    let expected = b"! r1 IOS\nip access-list extended E1_in\n permit tcp 10.1.1.0 0.0.0.255 10.1.2.0 0.0.0.255 eq 80\n deny ip any any\nip access-list extended E2_in\n permit tcp 10.1.2.0 0.0.0.255 eq 80 10.1.1.0 0.0.0.255 established\n deny ip any any\ninterface E1\n ip access-group E1_in in\ninterface E2\n ip access-group E2_in in\n";
+    let expected =
+        b"! r1 IOS\nip access-list extended E1_in\n permit tcp 10.1.1.0 0.0.0.255 10.1.2.0 0.0.0.255 eq 80\n deny ip any any\nip access-list extended E2_in\n permit tcp 10.1.2.0 0.0.0.255 eq 80 10.1.1.0 0.0.0.255 established\n deny ip any any\ninterface E1\n ip access-group E1_in in\ninterface E2\n ip access-group E2_in in\n";
     assert_eq!(rt; files[0].bytes.bytes(), expected.as_slice());
     let summary = summary_text(rt.alloc(), &compiled.summary)?;
-    assert_eq!(rt; summary.bytes(), b"networks 2\nzones 2\nrouters 1\npermits 1\nlocal 0\nlines 4\nroutes 0\n".as_slice());
+    assert_eq!(rt;
+        summary.bytes(),
+        b"networks 2\nzones 2\nrouters 1\npermits 1\nlocal 0\nlines 4\nroutes 0\n".as_slice()
+    );
     Ok(())
 }
 
 #[test]
 fn a_service_within_a_network(rt: HostRuntime) -> Result<(), Fail> {
-    let service = b"service:s1 = { user = network:n2; permit src = user; dst = network:n2; prt = tcp 80; }";
+    let service =
+        b"service:s1 = { user = network:n2; permit src = user; dst = network:n2; prt = tcp 80; }";
     let compiled = with_service(rt.alloc(), service)?;
     let files = compiled.files.items();
     assert_eq!(rt; files.len(), 1);
-    let expected = b"! r1 IOS\nip access-list extended E1_in\n deny ip any any\nip access-list extended E2_in\n deny ip any any\ninterface E1\n ip access-group E1_in in\ninterface E2\n ip access-group E2_in in\n";
+    let expected =
+        b"! r1 IOS\nip access-list extended E1_in\n deny ip any any\nip access-list extended E2_in\n deny ip any any\ninterface E1\n ip access-group E1_in in\ninterface E2\n ip access-group E2_in in\n";
     assert_eq!(rt; files[0].bytes.bytes(), expected.as_slice());
     let summary = summary_text(rt.alloc(), &compiled.summary)?;
-    assert_eq!(rt; summary.bytes(), b"networks 2\nzones 2\nrouters 1\npermits 1\nlocal 1\nlines 2\nroutes 0\n".as_slice());
+    assert_eq!(rt;
+        summary.bytes(),
+        b"networks 2\nzones 2\nrouters 1\npermits 1\nlocal 1\nlines 2\nroutes 0\n".as_slice()
+    );
     Ok(())
 }
 
 #[test]
 fn faults(rt: HostRuntime) -> Result<(), Fail> {
-    let asa = b"network:n1 = { ip = 10.1.1.0/24; } router:r1 = { managed; model = ASA; interface:n1 = { ip = 10.1.1.1; hardware = E1; } }";
+    let asa =
+        b"network:n1 = { ip = 10.1.1.0/24; } router:r1 = { managed; model = ASA; interface:n1 = { ip = 10.1.1.1; hardware = E1; } }";
     assert!(rt; matches!(compiled(rt.alloc(), asa), Err(Refusal::Policy(Fault::Form))));
-    let unknown = b"service:s1 = { user = network:n1; permit src = user; dst = network:n3; prt = tcp 80; }";
-    assert!(rt; matches!(with_service(rt.alloc(), unknown), Err(Refusal::Policy(Fault::Names))));
+    let unknown =
+        b"service:s1 = { user = network:n1; permit src = user; dst = network:n3; prt = tcp 80; }";
+    assert!(rt;
+        matches!(
+            with_service(rt.alloc(), unknown),
+            Err(Refusal::Policy(Fault::Names))
+        )
+    );
     assert!(rt; matches!(compile(rt.alloc(), &[]), Err(Refusal::Policy(Fault::Form))));
     Ok(())
 }

@@ -95,7 +95,13 @@ fn put_back(out: &mut Vec<u8>, src: (u32, u8), dst: (u32, u8), port: u32) -> Res
     Ok(())
 }
 
-pub fn put_permit(out: &mut Vec<u8>, src: (u32, u8), dst: (u32, u8), port: u32, back: bool) -> Result<(), NoMemory>
+pub fn put_permit(
+    out: &mut Vec<u8>,
+    src: (u32, u8),
+    dst: (u32, u8),
+    port: u32,
+    back: bool,
+) -> Result<(), NoMemory>
     requires src { src.1 ≤ 32 }
     requires dst { dst.1 ≤ 32 }
     ensures { IfOk result (λ _. out.new.items ≡ out.old.items ++ line_text (record { permit = true; src = record { net = src.0; len = src.1 } ∷ []; dst = record { net = dst.0; len = dst.1 } ∷ []; box = box_for back port })) }

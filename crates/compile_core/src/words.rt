@@ -85,7 +85,11 @@ fn octet(text: &[u8]) -> Option<u8>
     ensures { result ≡ octet_of text.now }
 {
     let value = number(text)?;
-    if value <= 255 { Some(value as u8) } else { None }
+    if value <= 255 {
+        Some(value as u8)
+    } else {
+        None
+    }
 }
 
 fn length(text: &[u8]) -> Option<u8>

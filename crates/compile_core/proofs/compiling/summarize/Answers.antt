@@ -9,7 +9,7 @@ pub returns : goal.returns
 unfolding counts_in
 returns c =
     same_counts _ _ _ _ _ _ _ _ c.args.lines
-      (sym (length-map c.args.networks.now network_of))
-      (sym (length-map c.args.networks.now network_of))
-      (sym (length-map c.args.services.now service_of))
-      (c.local-local.ensures ∙ sym (length-filter_map service_of (is_local (numbered_of c.args.tables.now)) c.args.services.now))
+    (sym (length-map c.args.networks.now network_of))
+    (sym (length-map c.args.networks.now network_of))
+    (sym (length-map c.args.services.now service_of))
+    (c.local-local.ensures ∙ sym (length-filter_map service_of (is_local (numbered_of c.args.tables.now)) c.args.services.now))
