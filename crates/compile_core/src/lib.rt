@@ -16,11 +16,5 @@ mod tests;
 mod text;
 mod words;
 
-<<<<<<< HEAD
-#[cfg(test)]
-mod tests;
-
-pub use distinct::device_files_have_distinct_names;
-=======
->>>>>>> 9718cac
 pub use compiling::{Compiled, DeviceFile, Summary, compile, summary_text};
+pub use distinct::device_files_have_distinct_names;
