@@ -1,0 +1,45 @@
+-- What the lists of each policy in memory keep.
+use Rattle.std.specs.Prelude.{◌≡◌, ℕ, ◌<◌, List, length, map, filter, ◌==◌}
+use Rattle.std.specs.List.{All}
+use Rattle.spoc_base.specs.declared.place.Source.{Source}
+use Rattle.policy_model.specs.Policy.{Policy, net_at, router_at, all_ifaces}
+use Rattle.topology.specs.Texts.{LiesIn, IsNameIn}
+use Rattle.topology.specs.Rows.{AreRows, row_at}
+use Rattle.topology.specs.Seen.{plain_of}
+use Rattle.topology.specs.Sound.{IsSound}
+use Rattle.topology.specs.declared.items.Parts.{Parts}
+use Rattle.topology.specs.declared.items.IfRows.{IfRows}
+
+-- a router's interfaces, by number
+abbrev pub ifaces_of : Policy → ℕ → List ℕ
+ifaces_of p r = filter (λ i. router_at p i == r) (all_ifaces p)
+
+-- the interfaces at a network, by number
+abbrev pub ifaces_at : Policy → ℕ → List ℕ
+ifaces_at p n = filter (λ i. net_at p i == n) (all_ifaces p)
+
+-- names and hardware are parts of the sources
+pub record IsWritten (parts : Parts) : Type 0 where
+  pub nets : All (λ x. IsNameIn parts.sources.now x.name) parts.nets.now
+  pub hosts : All (λ x. IsNameIn parts.sources.now x.name) parts.hosts.now
+  pub routers : All (λ x. IsNameIn parts.sources.now x.name) parts.routers.now
+  pub ifaces : All (λ x. IsNameIn parts.sources.now x.name × LiesIn parts.sources.now x.hardware) parts.ifaces.now
+  pub tags : All (λ x. IsNameIn parts.sources.now x.name) parts.tags.now
+  pub restrictions : All (λ x. IsNameIn parts.sources.now x.name) parts.restrictions.now
+  pub groups : All (λ x. IsNameIn parts.sources.now x.name) parts.groups.now
+  pub areas : All (λ x. IsNameIn parts.sources.now x.name) parts.areas.now
+  pub aggregates : All (λ x. IsNameIn parts.sources.now x.name) parts.aggregates.now
+  pub services : All (λ x. IsNameIn parts.sources.now x.name) parts.services.now
+
+-- there are so many rows, and the k-th has the numbers that a list has for k
+pub record HoldsRows (rows : IfRows) (count : ℕ) (numbers : ℕ → List ℕ) : Type 0 where
+  pub each : length rows.ends.now ≡ count
+  pub cut : AreRows rows.ids.now rows.ends.now
+  pub content : (k : ℕ) → k < count → map (λ i. i.0) (row_at rows.ids.now rows.ends.now k) ≡ numbers k
+
+-- The policy is sound, its names are in the sources, and its rows have the interfaces of each router and at each network.
+pub record IsKept (parts : Parts) : Type 0 where
+  pub sound : IsSound (plain_of parts)
+  pub written : IsWritten parts
+  pub at_router : HoldsRows parts.at_router (length (plain_of parts).routers) (ifaces_of (plain_of parts))
+  pub at_net : HoldsRows parts.at_net (length (plain_of parts).nets) (ifaces_at (plain_of parts))
