@@ -7,3 +7,4 @@ pub mod DeviceText
 pub mod Seen
 pub mod Outcome
 pub mod Answer
+pub mod Accepted
