@@ -59,8 +59,8 @@ pub one_place : (xs : List (List ℕ)) → has_repeat xs ≡ false → (j k : �
 one_place xs h j k bj bk e =
     ⊎_elim (λ q. q)
     (λ w. absurd (⊎_elim
-        (λ lt. false≢true (sym (ordered_apart [] xs h j k lt bk) ∙ (bytes_eq-Decides (get_or xs k []) (get_or xs j [])).1 (sym e)))
-        (λ gt. false≢true (sym (ordered_apart [] xs h k j gt bj) ∙ (bytes_eq-Decides (get_or xs j []) (get_or xs k [])).1 e)) w))
+    (λ lt. false≢true (sym (ordered_apart [] xs h j k lt bk) ∙ (bytes_eq-Decides (get_or xs k []) (get_or xs j [])).1 (sym e)))
+    (λ gt. false≢true (sym (ordered_apart [] xs h k j gt bj) ∙ (bytes_eq-Decides (get_or xs j []) (get_or xs k [])).1 e)) w))
     (cases_order j k)
 
 -- a name that is known has a number, and stands there
@@ -165,7 +165,7 @@ in_place names own i h =
       known = known;
       holds = λ below.
           let e : option_and_then (λ n. slice_get own n) (position (bytes_eq i.net) names) ≡ Some (get_or own (number_in names i.net) any_address) =
-              ap (option_and_then (λ n. slice_get own n)) number.found ∙ get_at own (number_in names i.net) below in
+          ap (option_and_then (λ n. slice_get own n)) number.found ∙ get_at own (number_in names i.net) below in
           not_false (prefix_holds (get_or own (number_in names i.net) any_address) i.addr) (sym (ap (λ o. option_map_or (λ p. not (prefix_holds p i.addr)) o true) e) ∙ h);
     }
   where
@@ -212,6 +212,7 @@ pub record Fits (f : Narrow) : Type 0 where
   pub once : (i j : ℕ) → i < length f.router.interfaces → j < length f.router.interfaces → net_at (policy_in f) i ≡ net_at (policy_in f) j → i ≡ j
   pub inside : (i a : ℕ) → (iface_of (policy_in f) i).addr ≡ Some a → prefix_holds (net_of (policy_in f) (net_at (policy_in f) i)).own a ≡ true
   pub served : (s : Service) → IsIn s f.services → IsServed (network_names f) (interface_nets f) s
+  pub named : (i : ℕ) → i < length f.router.interfaces → net_at (policy_in f) i ≡ number_in (network_names f) (get_or (interface_nets f) i [])
 
 module _ (f : Narrow) (ok : is_inconsistent f ≡ false) where
   p : Policy
@@ -280,7 +281,7 @@ module _ (f : Narrow) (ok : is_inconsistent f ≡ false) where
       let below = number.below in
       let here : prefix_holds (get_or (prefixes f) (number_in (network_names f) x.net) any_address) x.addr ≡ true = place.holds (omega (arith, below, name_count, prefix_count)) in
       subst (λ b. prefix_holds (net_of (policy_in f) (net_at (policy_in f) i)).own b ≡ true) w.3
-        (subst (λ q. prefix_holds q x.addr ≡ true) (sym (own_at (net_at (policy_in f) i) ∙ ap (λ n. get_or (prefixes f) n any_address) w.2)) here)
+      (subst (λ q. prefix_holds q x.addr ≡ true) (sym (own_at (net_at (policy_in f) i) ∙ ap (λ n. get_or (prefixes f) n any_address) w.2)) here)
 
   is_apart : (n m : ℕ) → n < length f.networks → m < length f.networks → is_inside (net_of (policy_in f) n).own (net_of (policy_in f) m).own ≡ true → n ≡ m
   is_apart n m bn bm h =
@@ -290,8 +291,8 @@ module _ (f : Narrow) (ok : is_inconsistent f ≡ false) where
       let meets = inside_meets P Q inside in
       ⊎_elim (λ q. q)
       (λ w. absurd (⊎_elim
-          (λ lt. false≢true (sym (apart_later (prefixes f) right.1 n m lt (omega (arith, prefix_count))) ∙ meets.0))
-          (λ gt. false≢true (sym (apart_later (prefixes f) right.1 m n gt (omega (arith, prefix_count))) ∙ meets.1)) w))
+      (λ lt. false≢true (sym (apart_later (prefixes f) right.1 n m lt (omega (arith, prefix_count))) ∙ meets.0))
+      (λ gt. false≢true (sym (apart_later (prefixes f) right.1 m n gt (omega (arith, prefix_count))) ∙ meets.1)) w))
       (cases_order n m)
 
   pub fits : Fits f
@@ -303,4 +304,5 @@ module _ (f : Narrow) (ok : is_inconsistent f ≡ false) where
     once = stands_once;
     inside = has_inside;
     served = λ s i. served (network_names f) (interface_nets f) s (none_in _ f.services fitting.1 s i);
+    named = at_name;
   }

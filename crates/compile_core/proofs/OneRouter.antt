@@ -164,14 +164,19 @@ module _ (f : Narrow) (fits : Fits f) where
           let e = and_parts (zone_at (site_in f) c.enter == from) (zone_at (site_in f) c.leave == to) ends in
           let x = there.0 in let y = there.1 in
           record {
-            step = c; alone = refl; enters = eqb-true _ _ e.0; leaves = eqb-true _ _ e.1;
-            enter_there = omega (arith, x, iface_count); leave_there = omega (arith, y, iface_count); elsewhere = apart other;
+            step = c;
+            alone = refl;
+            enters = eqb-true _ _ e.0;
+            leaves = eqb-true _ _ e.1;
+            enter_there = omega (arith, x, iface_count);
+            leave_there = omega (arith, y, iface_count);
+            elsewhere = apart other;
           }
       by (c ∷ d ∷ rest) other all ends once =
           let a = and_parts (not (has (routers_on (policy_in f) (d ∷ rest)) (router_at (policy_in f) c.enter))) (are_distinct (routers_on (policy_in f) (d ∷ rest))) once in
           let same : (router_at (policy_in f) d.enter == router_at (policy_in f) c.enter) ≡ true = eq-eqb _ _ (router_is d.enter ∙ sym (router_is c.enter)) in
           let twice : has (routers_on (policy_in f) (d ∷ rest)) (router_at (policy_in f) c.enter) ≡ true =
-              or_left (router_at (policy_in f) d.enter == router_at (policy_in f) c.enter) (has (routers_on (policy_in f) rest) (router_at (policy_in f) c.enter)) same in
+          or_left (router_at (policy_in f) d.enter == router_at (policy_in f) c.enter) (has (routers_on (policy_in f) rest) (router_at (policy_in f) c.enter)) same in
           absurd (false≢true (sym (ap not twice) ∙ a.0))
 
   -- from each interface to each other one at another network
@@ -185,20 +190,20 @@ module _ (f : Narrow) (fits : Fits f) where
       let zj = zone_at_is j bj in
       let other : not (from == to) ≡ true = ap not (no_eqb from to apart) in
       let through : is_through_router (policy_in f) c ≡ true =
-          and_from (nat_lt i (length (policy_in f).ifaces) && nat_lt j (length (policy_in f).ifaces)) (router_at (policy_in f) i == router_at (policy_in f) j)
-            (and_from (nat_lt i (length (policy_in f).ifaces)) (nat_lt j (length (policy_in f).ifaces)) (lt-ltb _ _ (omega (arith, iface_count))) (lt-ltb _ _ (omega (arith, iface_count))))
-            (eq-eqb _ _ (router_is i ∙ sym (router_is j))) in
+      and_from (nat_lt i (length (policy_in f).ifaces) && nat_lt j (length (policy_in f).ifaces)) (router_at (policy_in f) i == router_at (policy_in f) j)
+      (and_from (nat_lt i (length (policy_in f).ifaces)) (nat_lt j (length (policy_in f).ifaces)) (lt-ltb _ _ (omega (arith, iface_count))) (lt-ltb _ _ (omega (arith, iface_count))))
+      (eq-eqb _ _ (router_is i ∙ sym (router_is j))) in
       let crossing : is_crossing (site_in f) c ≡ true =
-          and_from (crosses_managed (policy_in f) c) (not (zone_at (site_in f) i == zone_at (site_in f) j)) (and_from (is_through_router (policy_in f) c) (is_managed (policy_in f) (router_at (policy_in f) i)) through (managed i))
-            (ap not (no_eqb (zone_at (site_in f) i) (zone_at (site_in f) j) (λ e. apart (sym zi ∙ e ∙ zj)))) in
+      and_from (crosses_managed (policy_in f) c) (not (zone_at (site_in f) i == zone_at (site_in f) j)) (and_from (is_through_router (policy_in f) c) (is_managed (policy_in f) (router_at (policy_in f) i)) through (managed i))
+      (ap not (no_eqb (zone_at (site_in f) i) (zone_at (site_in f) j) (λ e. apart (sym zi ∙ e ∙ zj)))) in
       let all : list_all (is_crossing (site_in f)) (c ∷ []) ≡ true = and_from (is_crossing (site_in f) c) true crossing refl in
       let ends : leads (zone_at (site_in f)) from (c ∷ []) to ≡ true = and_from (zone_at (site_in f) i == from) (zone_at (site_in f) j == to) (eq-eqb _ _ zi) (eq-eqb _ _ zj) in
       let zones : are_distinct (places_on (zone_at (site_in f)) from (c ∷ [])) ≡ true = two_distinct from (zone_at (site_in f) j) (λ e. apart (e ∙ zj)) in
       and_from (is_walk (site_in f) from to (c ∷ [])) (is_unrestricted (policy_in f) (c ∷ []))
-        (and_from (not (from == to) && list_all (is_crossing (site_in f)) (c ∷ []) && leads (zone_at (site_in f)) from (c ∷ []) to && are_distinct (places_on (zone_at (site_in f)) from (c ∷ []))) (are_distinct (routers_on (policy_in f) (c ∷ [])))
-          (and_from (not (from == to) && list_all (is_crossing (site_in f)) (c ∷ []) && leads (zone_at (site_in f)) from (c ∷ []) to) (are_distinct (places_on (zone_at (site_in f)) from (c ∷ [])))
-            (and_from (not (from == to) && list_all (is_crossing (site_in f)) (c ∷ [])) (leads (zone_at (site_in f)) from (c ∷ []) to)
-              (and_from (not (from == to)) (list_all (is_crossing (site_in f)) (c ∷ [])) other all) ends) zones) refl) refl
+      (and_from (not (from == to) && list_all (is_crossing (site_in f)) (c ∷ []) && leads (zone_at (site_in f)) from (c ∷ []) to && are_distinct (places_on (zone_at (site_in f)) from (c ∷ []))) (are_distinct (routers_on (policy_in f) (c ∷ [])))
+      (and_from (not (from == to) && list_all (is_crossing (site_in f)) (c ∷ []) && leads (zone_at (site_in f)) from (c ∷ []) to) (are_distinct (places_on (zone_at (site_in f)) from (c ∷ [])))
+      (and_from (not (from == to) && list_all (is_crossing (site_in f)) (c ∷ [])) (leads (zone_at (site_in f)) from (c ∷ []) to)
+      (and_from (not (from == to)) (list_all (is_crossing (site_in f)) (c ∷ [])) other all) ends) zones) refl) refl
     where
       no_eqb : (m n : ℕ) → (m ≡ n → ⊥) → (m == n) ≡ false
       no_eqb m n h = ⊎_elim (λ t. absurd (h (eqb-true m n t))) (λ e. e) (is_or_not (m == n))
@@ -247,6 +252,6 @@ module _ (f : Narrow) (fits : Fits f) where
       let bw : w < length f.networks = subst (λ k. k < length f.networks) way.other_here (fits.placed way.other way.other_there) in
       let test = λ (path : List Crossing). list_any (λ (c : Crossing). c.enter == i) path in
       let found : list_any test (allowed_walks (site_in f) (net_at (policy_in f) i) (net_at (policy_in f) way.other)) ≡ true =
-          (some_walk (site_in f) (net_at (policy_in f) i) (net_at (policy_in f) way.other) test).1 (record { enter = i; leave = way.other } ∷ [], walk, or_left (i == i) false (eq-eqb i i refl)) in
+      (some_walk (site_in f) (net_at (policy_in f) i) (net_at (policy_in f) way.other) test).1 (record { enter = i; leave = way.other } ∷ [], walk, or_left (i == i) false (eq-eqb i i refl)) in
       subst (λ k. list_any test (allowed_walks (site_in f) (zone_of (site_in f) u) k) ≡ true) (way.other_here ∙ sym (zone_is w bw))
-        (subst (λ k. list_any test (allowed_walks (site_in f) k (net_at (policy_in f) way.other)) ≡ true) (way.here ∙ sym (zone_is u bu)) found)
+      (subst (λ k. list_any test (allowed_walks (site_in f) k (net_at (policy_in f) way.other)) ≡ true) (way.here ∙ sym (zone_is u bu)) found)

@@ -94,7 +94,7 @@ module _ (f : Narrow) (fits : Fits f) where
           let w = and_parts (nat_lt n m) (are_one_prefix (prefix_in (policy_in f) view n) (prefix_in (policy_in f) view m)) h in
           let less : n < m = ltb-true n m w.0 in
           let one : same_prefix (net_of (policy_in f) n).own (net_of (policy_in f) m).own ≡ true =
-              subst (λ o. are_one_prefix (Some (net_of (policy_in f) n).own) o ≡ true) (prefix_is view m) (subst (λ o. are_one_prefix o (prefix_in (policy_in f) view m) ≡ true) (prefix_is view n) w.1) in
+          subst (λ o. are_one_prefix (Some (net_of (policy_in f) n).own) o ≡ true) (prefix_is view m) (subst (λ o. are_one_prefix o (prefix_in (policy_in f) view m) ≡ true) (prefix_is view n) w.1) in
           let same : n ≡ m = fits.apart n m (omega (arith, net_count)) (omega (arith, net_count)) (same_inside (net_of (policy_in f) n).own (net_of (policy_in f) m).own one) in
           omega (arith, less, same)
 
@@ -120,7 +120,7 @@ module _ (f : Narrow) (fits : Fits f) where
         let here : net_at (policy_in f) c.leave ≡ w = sym (zone_at_is f fits c.leave one.leave_there) ∙ one.leaves ∙ zone_is f fits w below in
         let j : IsIn h (hops_on (policy_in f) w r (c ∷ [])) = subst (λ l. IsIn h (hops_on (policy_in f) w r l)) one.alone i in
         let k : IsIn h (cond (router_at (policy_in f) c.enter == r) (record { out = c.leave; next = None } ∷ []) [] ++ []) =
-            subst (λ b. IsIn h (cond (router_at (policy_in f) c.enter == r) (cond b (record { out = c.leave; next = None } ∷ []) (hops_beyond (policy_in f) w c.leave [])) [] ++ [])) (eq-eqb _ _ here) j in
+        subst (λ b. IsIn h (cond (router_at (policy_in f) c.enter == r) (cond b (record { out = c.leave; next = None } ∷ []) (hops_beyond (policy_in f) w c.leave [])) [] ++ [])) (eq-eqb _ _ here) j in
         direct c here one.leave_there (router_at (policy_in f) c.enter == r) h k
       where
         direct : (c : Crossing) → net_at (policy_in f) c.leave ≡ w → c.leave < length f.router.interfaces → (b : Bool) (h : NextHop) → IsIn h (cond b (record { out = c.leave; next = None } ∷ []) [] ++ []) → IsDirect w h
@@ -143,8 +143,10 @@ module _ (f : Narrow) (fits : Fits f) where
       where
         lacking : (h : NextHop) → IsDirect w h → lacks_address (policy_in f) h ≡ true → ⊥
         lacking h d t = false≢true (subst (λ o. lacks_address (policy_in f) (record { out = h.out; next = o }) ≡ true) d.next t)
+
         nothing : list_any (lacks_address (policy_in f)) (hops_of (site_in f) permits r w) ≡ false
         nothing = ⊎_elim (λ t. let x = some_in (lacks_address (policy_in f)) (hops_of (site_in f) permits r w) t in absurd (lacking x.0 (all_direct x.0 x.1) x.2)) (λ e. e) (is_or_not (list_any (lacks_address (policy_in f)) (hops_of (site_in f) permits r w)))
+
         by : (b : Bool) → (b && list_any (lacks_address (policy_in f)) (hops_of (site_in f) permits r w)) ≡ false
         by true = nothing
         by false = refl
@@ -157,6 +159,7 @@ module _ (f : Narrow) (fits : Fits f) where
       where
         same_hop_is : (g h : NextHop) → g.out ≡ h.out → g.next ≡ h.next → g ≡ h
         same_hop_is g h e x = let P : ℕ → NextHop = λ k. record { out = k; next = g.next } in let Q : Option ℕ → NextHop = λ o. record { out = h.out; next = o } in ap P e ∙ ap Q x
+
         alike_itself : (g : NextHop) → g.next ≡ None → same_next_hop g g ≡ true
         alike_itself g e = subst (λ o. same_next_hop (record { out = g.out; next = o }) (record { out = g.out; next = o }) ≡ true) (sym e) (and_from (g.out == g.out) true (eq-eqb g.out g.out refl) refl)
 
@@ -175,8 +178,10 @@ module _ (f : Narrow) (fits : Fits f) where
             let b = from_flat_map (hops_on (policy_in f) w r) h (allowed_walks (site_in f) (zone_of (site_in f) u) (zone_of (site_in f) w)) a.2 in
             let c = from_filter (is_allowed_walk (site_in f) (zone_of (site_in f) u) (zone_of (site_in f) w)) b.0 (all_paths (site_in f)) b.1 in
             walk_hops b.0 (zone_of (site_in f) u) c.1 h b.2
+
         few : nat_lt 1 (length (hops_of (site_in f) permits r w)) ≡ false
         few = one_left same_next_hop raw (λ g h i j. hops_alike g h (raw_direct g i) (raw_direct h j))
+
         by : (b : Bool) → (b && nat_lt 1 (length (hops_of (site_in f) permits r w))) ≡ false
         by true = few
         by false = refl
@@ -198,8 +203,8 @@ module _ (f : Narrow) (fits : Fits f) where
     none_routed : (r : ℕ) → all_routes (site_in f) (views_in f) permits r ≡ []
     none_routed r =
         none_made (λ n. flat_map (λ net. flat_map (routes_by (policy_in f) net) (hops_of (site_in f) permits r n)) (option_to_list (prefix_in (policy_in f) (router_view (views_in f) r) n))) (all_nets (policy_in f))
-          (λ n i. none_made (λ net. flat_map (routes_by (policy_in f) net) (hops_of (site_in f) permits r n)) (option_to_list (prefix_in (policy_in f) (router_view (views_in f) r) n))
-              (λ net j. let b = below_count (policy_in f) n i in no_routes permits r n (omega (arith, b, net_count)) net))
+        (λ n i. none_made (λ net. flat_map (routes_by (policy_in f) net) (hops_of (site_in f) permits r n)) (option_to_list (prefix_in (policy_in f) (router_view (views_in f) r) n))
+        (λ net j. let b = below_count (policy_in f) n i in no_routes permits r n (omega (arith, b, net_count)) net))
 
     empty_table : (r : ℕ) → route_table (site_in f) (views_in f) permits r ≡ []
     empty_table r =

@@ -87,14 +87,14 @@ module _ (f : Narrow) (fits : Fits f) where
   abbrev pub service_at : ℕ → Service
   service_at k = get_or f.services k no_service
 
-  own_at : (n : ℕ) → (net_of (policy_in f) n).own ≡ prefix_at t n
+  pub own_at : (n : ℕ) → (net_of (policy_in f) n).own ≡ prefix_at t n
   own_at n = own_is f.networks n ∙ sym (prefix_or_any (prefixes f) n)
 
   -- the permit of a number
-  permit_is : (k : ℕ) → k < length f.services → permit_at P k ≡ permit_in f fits (service_at k)
+  pub permit_is : (k : ℕ) → k < length f.services → permit_at P k ≡ permit_in f fits (service_at k)
   permit_is k below = get_or-map (permit_in f fits) f.services k no_service no_permit below
 
-  permit_count : length P ≡ length f.services
+  pub permit_count : length P ≡ length f.services
   permit_count = length-map f.services (permit_in f fits)
 
   -- a permit between two networks
@@ -128,6 +128,7 @@ module _ (f : Narrow) (fits : Fits f) where
       where
         built : Cidr → Cidr → ℕ → Line
         built a b n = record { permit = true; src = a ∷ []; dst = b ∷ []; box = box_for back n }
+
         make : (a a' b b' : Cidr) (n n' : ℕ) → a ≡ a' → b ≡ b' → n ≡ n' → ◌≡◌ {A = Line} (record { permit = true; src = a ∷ []; dst = b ∷ []; box = box_for back n }) (record { permit = true; src = a' ∷ []; dst = b' ∷ []; box = box_for back n' })
         make a a' b b' n n' e g h =
             let R : Cidr → Line = λ x. record { permit = true; src = x ∷ []; dst = b ∷ []; box = box_for back n } in
@@ -149,7 +150,7 @@ module _ (f : Narrow) (fits : Fits f) where
     forward_line k u w d b =
         let ends = ends_below k u w b in
         let made : permit_at P k ≡ end_to_end u w (TcpPorts all_ports (one_port (service_at k).port) false) =
-            permit_is k b.below ∙ ap (λ n. end_to_end n (number (service_at k).dst) (TcpPorts all_ports (one_port (service_at k).port) false)) b.src ∙ ap (λ n. end_to_end u n (TcpPorts all_ports (one_port (service_at k).port) false)) b.dst in
+        permit_is k b.below ∙ ap (λ n. end_to_end n (number (service_at k).dst) (TcpPorts all_ports (one_port (service_at k).port) false)) b.src ∙ ap (λ n. end_to_end u n (TcpPorts all_ports (one_port (service_at k).port) false)) b.dst in
         ap (permit_lines (policy_in f) view) made ∙ line_is f fits view u w (TcpPorts all_ports (one_port (service_at k).port) false) ends.0 ends.1 ∙ ap (λ l. l ∷ []) (line_for k u w d false b.below)
       where
         end_to_end : ℕ → ℕ → TransportBox → Permit
@@ -160,7 +161,7 @@ module _ (f : Narrow) (fits : Fits f) where
         let ends = ends_below k w u b in
         let box = TcpPorts (one_port (service_at k).port) all_ports true in
         let made : mirrors_of (permit_at P k) ≡ end_to_end u w box ∷ [] =
-            ap mirrors_of (permit_is k b.below) ∙ ap (λ n. end_to_end n (number (service_at k).user) box ∷ []) b.dst ∙ ap (λ n. end_to_end u n box ∷ []) b.src in
+        ap mirrors_of (permit_is k b.below) ∙ ap (λ n. end_to_end n (number (service_at k).user) box ∷ []) b.dst ∙ ap (λ n. end_to_end u n box ∷ []) b.src in
         ap (flat_map (permit_lines (policy_in f) view)) made ∙ flat_map-cons (permit_lines (policy_in f) view) (end_to_end u w box) [] ∙ append-nil (permit_lines (policy_in f) view (end_to_end u w box))
         ∙ line_is f fits view u w box ends.1 ends.0 ∙ ap (λ l. l ∷ []) (line_for k u w d true b.below)
       where
@@ -174,7 +175,7 @@ module _ (f : Narrow) (fits : Fits f) where
     is_ios : is_ios_at (policy_in f) i ≡ true
     is_ios = ap (λ r. runs_ios (router_of (policy_in f) r).device) (router_is f fits i)
 
-    replied : (e : NetPair) → replied_between (policy_in f) P i e ≡ permits_between P e.dst e.src
+    pub replied : (e : NetPair) → replied_between (policy_in f) P i e ≡ permits_between P e.dst e.src
     replied e =
         ap (λ b. cond b (filter (λ k. has_replies (permit_at P k).box) (permits_between P e.dst e.src)) []) is_ios
         ∙ all_pass (λ k. has_replies (permit_at P k).box) (permits_between P e.dst e.src) (λ k m. ap (λ (q : Permit). has_replies q.box) (permit_is k (between e.dst e.src k m).below))
@@ -186,15 +187,15 @@ module _ (f : Narrow) (fits : Fits f) where
         let fw = λ (k : ℕ). entry i d e.src e.dst false k in
         let bw = λ (k : ℕ). entry i d e.src e.dst true k in
         let one : flat_map ahead (permits_between P e.src e.dst) ≡ map line (map fw (permits_between P e.src e.dst)) =
-            one_each ahead (λ k. line (fw k)) (permits_between P e.src e.dst) (λ k m. forward_line k e.src e.dst d (between e.src e.dst k m)) ∙ map_twice line fw (permits_between P e.src e.dst) in
+        one_each ahead (λ k. line (fw k)) (permits_between P e.src e.dst) (λ k m. forward_line k e.src e.dst d (between e.src e.dst k m)) ∙ map_twice line fw (permits_between P e.src e.dst) in
         let two : flat_map behind (replied_between (policy_in f) P i e) ≡ map line (map bw (permits_between P e.dst e.src)) =
-            ap (flat_map behind) (replied e) ∙ one_each behind (λ k. line (bw k)) (permits_between P e.dst e.src) (λ k m. back_line k e.src e.dst d (between e.dst e.src k m)) ∙ map_twice line bw (permits_between P e.dst e.src) in
+        ap (flat_map behind) (replied e) ∙ one_each behind (λ k. line (bw k)) (permits_between P e.dst e.src) (λ k m. back_line k e.src e.dst d (between e.dst e.src k m)) ∙ map_twice line bw (permits_between P e.dst e.src) in
         ap (λ l. l ++ flat_map behind (replied_between (policy_in f) P i e)) one ∙ ap (λ l. map line (map fw (permits_between P e.src e.dst)) ++ l) two
         ∙ sym (map-append line (map fw (permits_between P e.src e.dst)) (map bw (permits_between P e.dst e.src)))
 
     -- ---- no pair is closed
 
-    pair_below : (e : NetPair) → IsIn e (pairs_on_path (site_in f) i) → (e.src < length f.networks) × (e.dst < length f.networks) × (is_on_path (site_in f) i e ≡ true)
+    pub pair_below : (e : NetPair) → IsIn e (pairs_on_path (site_in f) i) → (e.src < length f.networks) × (e.dst < length f.networks) × (is_on_path (site_in f) i e ≡ true)
     pair_below e m =
         let w = from_filter (is_on_path (site_in f) i) e (all_pairs (policy_in f)) m in
         let a = from_map (λ (x : ℕ × ℕ). pair_of x) e (pairs_of (all_nets (policy_in f)) (all_nets (policy_in f))) w.0 in
@@ -209,6 +210,7 @@ module _ (f : Narrow) (fits : Fits f) where
       where
         pair_of : ℕ × ℕ → NetPair
         pair_of x = record { src = x.0; dst = x.1 }
+
         both : ℕ → ℕ → ℕ × ℕ
         both x y = (x, y)
 
@@ -229,11 +231,11 @@ module _ (f : Narrow) (fits : Fits f) where
         let here = pair_below e m in
         ⊎_elim
         (λ h.
-            let w = some_in test (pairs_on_path (site_in f) i) h in
-            let outer = w.0 in
-            let there = pair_below outer w.1 in
-            let v = and_parts (encloses (site_in f) (views_in f) P i outer e) (list_any (reaches_into (site_in f) (views_in f) P i e) (pair_lines (site_in f) (views_in f) P i outer)) w.2 in
-            absurd (not_round outer e there.0 there.1 here.0 here.1 v.0))
+        let w = some_in test (pairs_on_path (site_in f) i) h in
+        let outer = w.0 in
+        let there = pair_below outer w.1 in
+        let v = and_parts (encloses (site_in f) (views_in f) P i outer e) (list_any (reaches_into (site_in f) (views_in f) P i e) (pair_lines (site_in f) (views_in f) P i outer)) w.2 in
+        absurd (not_round outer e there.0 there.1 here.0 here.1 v.0))
         (λ g. g) (is_or_not (list_any test (pairs_on_path (site_in f) i)))
 
     -- ---- the list

@@ -7,6 +7,7 @@
 mod compiling;
 mod consistent;
 mod entry;
+mod laws;
 mod lists;
 mod names;
 mod reading;
@@ -16,3 +17,4 @@ mod text;
 mod words;
 
 pub use compiling::{Compiled, DeviceFile, Summary, compile, summary_text};
+pub use laws::accepted_policies_are_exact;
