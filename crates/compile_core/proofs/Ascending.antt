@@ -18,7 +18,7 @@ less_parts : (m n : ℕ) (b : Bool) → less_then m n b ≡ true → (m < n) ⊎
 less_parts m n b h =
     ⊎_elim (λ t. inl (ltb-true m n t)) (λ t. let w = and_parts (m == n) b t in inr (eqb-true m n w.0, w.1)) (or_cases (nat_lt m n) ((m == n) && b) h)
 
-less_from : (m n : ℕ) (b : Bool) → (m < n) ⊎ ((m ≡ n) × (b ≡ true)) → less_then m n b ≡ true
+pub less_from : (m n : ℕ) (b : Bool) → (m < n) ⊎ ((m ≡ n) × (b ≡ true)) → less_then m n b ≡ true
 less_from m n b (inl h) = or_left (nat_lt m n) ((m == n) && b) (lt-ltb m n h)
 less_from m n b (inr h) = or_right (nat_lt m n) ((m == n) && b) (and_from (m == n) b (eq-eqb m n h.0) h.1)
 

@@ -37,9 +37,9 @@ number_in names name = unwrap_or (position (bytes_eq name) names) 0
 abbrev pub prefixes : Narrow → List Cidr
 prefixes f = map (λ n. n.own) f.networks
 
--- the length is one, and no host bit is set
+-- the length and the address are ones, and no host bit is set
 abbrev pub is_cidr : Cidr → Bool
-is_cidr p = nat_le p.len 32 && (p.net % size_of p == 0)
+is_cidr p = nat_le p.len 32 && nat_lt p.net 4294967296 && (p.net % size_of p == 0)
 
 -- some address is in both
 abbrev pub prefixes_meet : Cidr → Cidr → Bool

@@ -8,6 +8,7 @@ mod compiling;
 mod consistent;
 mod distinct;
 mod entry;
+mod laws;
 mod lists;
 mod names;
 mod reading;
@@ -17,4 +18,8 @@ mod text;
 mod words;
 
 pub use compiling::{Compiled, DeviceFile, Summary, compile, summary_text};
+<<<<<<< HEAD
 pub use distinct::device_files_have_distinct_names;
+=======
+pub use laws::accepted_policies_are_exact;
+>>>>>>> 8b5d5a19b84049ec0d4ebac475c3293b390257e2
