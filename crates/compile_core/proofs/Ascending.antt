@@ -1,11 +1,11 @@
 -- Lists that ascend strictly by an order: two with the same members are equal.
-use Rattle.std.proofs.Common.{◌≡◌, ℕ, ◌<◌, ◌⊎◌, inl, inr, Bool, true, false, not, cond, ◌&&◌, ◌||◌, List, [], ◌∷◌, refl, sym, ap, subst, ◌∙◌, ⊎_elim, arith}
+use Rattle.std.proofs.Common.{◌≡◌, ℕ, ◌<◌, ◌⊎◌, inl, inr, Bool, true, false, cond, ◌&&◌, List, [], ◌∷◌, refl, sym, ap, subst, ◌∙◌, ⊎_elim, arith}
 use Rattle.std.specs.Prelude.{nat_lt, ◌==◌, filter}
 use Rattle.std.proofs.lemmas.Bool.{false≢true, cases_order, and_parts, and_from, or_cases, or_left, or_right, ltb-true, lt-ltb, eqb-true, eq-eqb}
 use Rattle.policy_model.specs.Lists.{sorted_by, with_inserted}
 use Rattle.policy_model.proofs.AllWalks.{IsIn}
 use Rattle.list_laws.proofs.Members.{from_filter}
-use Rattle.list_laws.proofs.Tables.{from_inserted, from_sorted, in_sorted}
+use Rattle.list_laws.proofs.Tables.{from_inserted, from_sorted}
 use Rattle.compile_core.specs.Entries.{less_then}
 
 -- what makes a test an order, in which those that tie are alike

@@ -1,27 +1,24 @@
 -- Each policy that is compiled is exact.
-use Rattle.std.proofs.Common.{◌≡◌, ℕ, zero, suc, ◌+◌, ◌<◌, ◌≤◌, ◌⊎◌, inl, inr, Bool, true, false, not, cond, List, [], ◌∷◌, ◌++◌, length, map, get_or, refl, sym, ap, subst, ◌∙◌, ⊎_elim, arith}
-use Rattle.std.specs.Prelude.{nat_lt, ◌==◌, filter, slice_index_or, count_by, take, is_some, Option, Some, None, Result, Ok, Err}
+use Rattle.std.proofs.Common.{◌≡◌, ℕ, zero, suc, ◌+◌, ◌<◌, ◌≤◌, inl, inr, Bool, true, false, cond, List, [], ◌∷◌, length, map, get_or, refl, sym, ap, ◌∙◌, arith}
+use Rattle.std.specs.Prelude.{nat_lt, ◌==◌, filter, slice_index_or, Option, Some, None, Result, Ok, Err}
 use Rattle.std.specs.List.{range_with_len}
 use Rattle.std.proofs.lemmas.List.{length-map}
-use Rattle.std.proofs.lemmas.Bool.{false≢true, eq-eqb, ltb-true, lt-ltb}
+use Rattle.std.proofs.lemmas.Bool.{eq-eqb, ltb-true}
 use Rattle.spoc_base.specs.declared.fault.Fault.{Fault}
-use Rattle.spoc_base.specs.declared.fault.Fault.TheVariants.{Form, Names}
+use Rattle.spoc_base.specs.declared.fault.Fault.TheVariants.{Names}
 use Rattle.spoc_lexer.specs.Tokens.{Tok, tokens_of}
 use Rattle.policy_model.specs.Policy.{router_at, all_ifaces}
 use Rattle.policy_model.specs.Tags.{ifaces_of}
 use Rattle.policy_model.specs.Permits.{permits_of}
-use Rattle.policy_model.specs.Packets.{Header}
-use Rattle.policy_model.specs.Filters.{Line, passes}
+use Rattle.policy_model.specs.Filters.{passes}
 use Rattle.policy_model.specs.Blocks.{list_at}
-use Rattle.policy_model.specs.Passing.{Config, no_config, config_of, list_in}
-use Rattle.policy_model.specs.Laws.{PassAlike}
+use Rattle.policy_model.specs.Passing.{Config, config_of, list_in}
 use Rattle.policy_model.specs.Headline.{IsExact}
 use Rattle.policy_model.proofs.AllWalks.{IsIn}
 use Rattle.policy_laws.specs.Secured.{HaveLists}
-use Rattle.policy_laws.proofs.Placed.{from_numbers}
 use Rattle.policy_laws.proofs.Shapes.{secured}
 use Rattle.policy_laws.proofs.Whole.{routed, exact_configs}
-use Rattle.compile_core.specs.Narrow.{Network, Interface, Router, Service, Narrow}
+use Rattle.compile_core.specs.Narrow.{Interface, Service, Narrow}
 use Rattle.compile_core.specs.Consistent.{network_names, is_inconsistent}
 use Rattle.compile_core.specs.Reading.{read_narrow}
 use Rattle.compile_core.specs.Entries.{Numbered, numbered_in, lines_at, lists_from}

@@ -1,22 +1,21 @@
 -- What is so of a file whose names, addresses and services fit together.
-use Rattle.std.proofs.Common.{◌≡◌, ℕ, zero, suc, ◌+◌, ◌-◌, ◌<◌, ◌≤◌, ◌^◌, ◌%◌, ◌⊎◌, inl, inr, Bool, true, false, not, cond, ◌&&◌, ◌||◌, List, [], ◌∷◌, ◌++◌, length, map, get_or, refl, sym, ap, subst, ◌∙◌, ⊎_elim, arith}
-use Rattle.std.specs.Prelude.{nat_lt, nat_le, ◌==◌, position, is_some, unwrap_or, slice_get, option_and_then, Option, Some, None, IsTrue}
+use Rattle.std.proofs.Common.{◌≡◌, ℕ, zero, suc, ◌+◌, ◌-◌, ◌<◌, ◌≤◌, ◌%◌, ◌⊎◌, inl, inr, Bool, true, false, not, ◌&&◌, ◌||◌, List, [], ◌∷◌, ◌++◌, length, map, get_or, refl, sym, ap, subst, ◌∙◌, ⊎_elim, arith}
+use Rattle.std.specs.Prelude.{nat_lt, nat_le, ◌==◌, position, is_some, unwrap_or, slice_get, option_and_then, Option, Some, None}
 use Rattle.std.specs.Option.{option_map_or}
-use Rattle.std.specs.List.{list_any, list_all}
+use Rattle.std.specs.List.{list_any}
 use Rattle.std.specs.Str.{bytes_eq}
 use Rattle.std.proofs.lemmas.Slice.Eq.{bytes_eq-Decides}
 use Rattle.std.proofs.lemmas.List.{get_or-map, length-map}
 use Rattle.std.proofs.lemmas.List.Quantifiers.{position-Some}
-use Rattle.std.proofs.lemmas.Bool.{false≢true, cases_order, and_parts, and_from, eqb-true, leb-true, le-leb, ltb-true, not-true, not_from_false}
-use Rattle.spoc_base.specs.Address.{Cidr, IsCidr, addresses, prefix_holds, is_inside, any_address, size_of}
-use Rattle.policy_model.specs.Policy as model
-use Rattle.policy_model.specs.Policy.{Policy, net_of, iface_of, net_at, router_at, no_net, no_iface}
+use Rattle.std.proofs.lemmas.Bool.{false≢true, cases_order, and_parts, and_from, eqb-true, leb-true, le-leb, ltb-true}
+use Rattle.spoc_base.specs.Address.{Cidr, addresses, prefix_holds, is_inside, any_address, size_of}
+use Rattle.policy_model.specs.Policy.{Policy, net_of, iface_of, net_at, no_net, no_iface}
 use Rattle.policy_model.proofs.AllWalks.{IsIn, in_back, in_front}
 use Rattle.list_laws.proofs.Members.{some_of}
 use Rattle.policy_laws.specs.Secured.{IsPrefix}
-use Rattle.compile_core.specs.Narrow.{Network, Interface, Router, Service, Narrow}
-use Rattle.compile_core.specs.Consistent.{repeats, has_repeat, network_names, interface_nets, hardwares, service_names, is_known, number_in, prefixes, is_cidr, prefixes_meet, two_meet, own_of, is_misplaced, is_misled, has_wrong_prefix, has_twin, has_misfit, is_inconsistent}
-use Rattle.compile_core.specs.Accepted.{net_in, iface_in, service_in, policy_in}
+use Rattle.compile_core.specs.Narrow.{Network, Interface, Service, Narrow}
+use Rattle.compile_core.specs.Consistent.{repeats, has_repeat, network_names, interface_nets, hardwares, service_names, is_known, number_in, prefixes, is_cidr, prefixes_meet, two_meet, is_misplaced, is_misled, has_wrong_prefix, has_twin, has_misfit, is_inconsistent}
+use Rattle.compile_core.specs.Accepted.{net_in, iface_in, policy_in}
 
 -- ---- tests
 

@@ -1,8 +1,8 @@
 -- Items read one by one are the items read at once.
-use Rattle.std.proofs.Common.{◌≡◌, ℕ, zero, suc, List, [], ◌∷◌, ◌++◌, Option, Some, None, length, map, ◌+◌, ◌-◌, ◌<◌, refl, sym, ap, ◌∙◌, append_assoc, arith}
+use Rattle.std.proofs.Common.{◌≡◌, ℕ, zero, suc, List, [], ◌∷◌, ◌++◌, Some, None, length, map, ◌+◌, ◌-◌, ◌<◌, sym, ap, ◌∙◌, append_assoc, arith}
 use Rattle.std.proofs.lemmas.List.{append-nil, map-append, length_push}
 use Rattle.spoc_lexer.specs.Tokens.{Tok}
-use Rattle.compile_core.specs.Reading.{Reader, goes_on, read_up_to, read_all}
+use Rattle.compile_core.specs.Reading.{Reader, goes_on, read_up_to}
 
 -- what was read before, and then this
 abbrev pub behind_items : {A : Type 0} → List A → List A × List Tok → List A × List Tok

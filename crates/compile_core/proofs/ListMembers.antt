@@ -1,29 +1,29 @@
 -- The entries of the list at an interface are those of the services there.
-use Rattle.std.proofs.Common.{◌≡◌, ℕ, zero, suc, ◌+◌, ◌-◌, ◌<◌, ◌≤◌, ◌⊎◌, inl, inr, Bool, true, false, not, cond, ◌&&◌, ◌||◌, List, [], ◌∷◌, ◌++◌, length, map, get_or, refl, sym, ap, subst, ◌∙◌, ⊎_elim, arith}
-use Rattle.std.specs.Prelude.{filter, flat_map, ◌==◌, is_some, Option, Some, None}
+use Rattle.std.proofs.Common.{◌≡◌, ℕ, zero, suc, ◌+◌, ◌-◌, ◌<◌, ◌≤◌, inl, inr, Bool, true, false, not, cond, ◌&&◌, ◌||◌, List, [], ◌∷◌, ◌++◌, length, map, get_or, refl, sym, ap, subst, ◌∙◌, ⊎_elim, arith}
+use Rattle.std.specs.Prelude.{filter, ◌==◌, is_some}
 use Rattle.std.specs.Option.{option_map_or}
 use Rattle.std.specs.List.{enumerate_from}
 use Rattle.std.proofs.lemmas.List.{length-map}
-use Rattle.std.proofs.lemmas.Bool.{false≢true, eqb-true, eq-eqb, and_from, and_parts, or_left, or_right}
+use Rattle.std.proofs.lemmas.Bool.{false≢true, eqb-true, eq-eqb, and_from, or_left, or_right}
 use Rattle.spoc_base.specs.Address.{Cidr}
 use Rattle.policy_model.specs.Lists.{numbers_below, pairs_of, is_nothing, sorted_by}
-use Rattle.policy_model.specs.Policy.{net_of, net_at, all_nets, router_of}
+use Rattle.policy_model.specs.Policy.{net_at, all_nets}
 use Rattle.policy_model.specs.Zones.{zone_at}
 use Rattle.policy_model.specs.Tags.{zone_view}
 use Rattle.policy_model.specs.Places.{prefix_in, length_in}
-use Rattle.policy_model.specs.Permits.{Permit, permits_of, has_replies}
+use Rattle.policy_model.specs.Permits.{Permit, permits_of}
 use Rattle.policy_model.specs.Filters.{deny_all}
-use Rattle.policy_model.specs.Blocks.{NetPair, all_pairs, is_on_path, pairs_on_path, Block, places_where, permit_at, no_permit, permits_between, replied_between, is_seen, block_of, is_needed, is_closed, depth_of, placement, list_at}
+use Rattle.policy_model.specs.Blocks.{NetPair, all_pairs, is_on_path, pairs_on_path, Block, places_where, no_permit, permits_between, replied_between, is_seen, block_of, is_needed, is_closed, depth_of, placement, list_at}
 use Rattle.policy_model.proofs.AllWalks.{IsIn, from_map, in_map, in_filter, in_flat_map, in_pairs, in_numbers, in_front, in_back}
 use Rattle.list_laws.proofs.Members.{from_filter, in_either}
 use Rattle.list_laws.proofs.Tables.{from_flat_map, from_sorted, in_sorted}
 use Rattle.compile_core.specs.declared.entry.Entry.{Entry}
-use Rattle.compile_core.specs.Narrow.{Network, Interface, Router, Service, Narrow}
-use Rattle.compile_core.specs.Consistent.{network_names, number_in, interface_nets, prefixes, is_known}
-use Rattle.compile_core.specs.Entries.{is_before, Numbered, numbered_in, prefix_at, shallowness, ends_entries, service_entries, entries_from, all_entries, entries_at, lines_at, line_of}
+use Rattle.compile_core.specs.Narrow.{Network, Interface, Service, Narrow}
+use Rattle.compile_core.specs.Consistent.{network_names, number_in, interface_nets, is_known}
+use Rattle.compile_core.specs.Entries.{is_before, Numbered, numbered_in, prefix_at, shallowness, service_entries, entries_from, all_entries, entries_at, lines_at, line_of}
 use Rattle.compile_core.specs.Accepted.{net_in, policy_in, site_in, views_in}
 use Rattle.compile_core.proofs.Facts.{Fits, IsServed, known_number, is_or_not}
-use Rattle.compile_core.proofs.Ascending.{Ascending, ascending_equal, sorted_ascends, filter_unlike}
+use Rattle.compile_core.proofs.Ascending.{ascending_equal, sorted_ascends, filter_unlike}
 use Rattle.compile_core.proofs.Runs.{order, entries_unlike}
 use Rattle.compile_core.proofs.OneRouter.{IsOnWay, on_way, way_on}
 use Rattle.compile_core.proofs.Premises.{prefix_is}

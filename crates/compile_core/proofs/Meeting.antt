@@ -1,12 +1,12 @@
 -- Two of some ranges meet exactly where two neighbours do, once they are sorted by their first numbers.
-use Rattle.std.proofs.Common.{◌≡◌, ℕ, zero, suc, ◌+◌, ◌<◌, ◌≤◌, ◌⊎◌, inl, inr, Bool, true, false, not, cond, ◌&&◌, ◌||◌, List, [], ◌∷◌, length, map, refl, sym, ap, subst, ◌∙◌, ⊎_elim, arith}
-use Rattle.std.specs.Prelude.{nat_lt, nat_le, sum_by, IsTrue}
+use Rattle.std.proofs.Common.{◌≡◌, ℕ, suc, ◌+◌, ◌<◌, ◌≤◌, ◌⊎◌, inl, inr, Bool, true, false, cond, ◌&&◌, ◌||◌, List, [], ◌∷◌, length, map, refl, sym, ap, subst, ◌∙◌, arith}
+use Rattle.std.specs.Prelude.{nat_le, sum_by}
 use Rattle.std.specs.List.{list_any}
 use Rattle.std.specs.List.Sorted.{IsPermutation, IsNonDecreasingBy}
 use Rattle.std.proofs.lemmas.List.Sorted.{sum_by-IsPermutation}
 use Rattle.std.proofs.lemmas.List.Sums.{sum_by-cons}
-use Rattle.std.proofs.lemmas.Bool.{leb-true, le-leb, ltb-true, lt-ltb, false≢true, and_parts, and_from}
-use Rattle.spoc_base.specs.Address.{Cidr, addresses, interval_meets}
+use Rattle.std.proofs.lemmas.Bool.{leb-true, le-leb, false≢true, and_from}
+use Rattle.spoc_base.specs.Address.{Cidr, addresses}
 use Rattle.spoc_base.specs.Shown.{cidr_of}
 use Rattle.spoc_base.specs.declared.address.Prefix.{Prefix}
 use Rattle.compile_core.specs.Consistent.{prefixes_meet, two_meet, neighbours_meet}

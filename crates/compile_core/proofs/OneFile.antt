@@ -1,14 +1,14 @@
 -- There is one device file.
-use Rattle.std.proofs.Common.{◌≡◌, ℕ, Bool, true, false, List, [], ◌∷◌, Option, Some, None, Result, Ok, Err, cond, subst, ap}
+use Rattle.std.proofs.Common.{◌≡◌, ℕ, Bool, true, false, List, [], ◌∷◌, Option, Some, None, Result, Ok, Err, cond, subst}
 use Rattle.std.specs.Str.{bytes_eq}
 use Rattle.std.specs.List.{IsDistinct}
 use Rattle.spoc_base.specs.declared.fault.Fault.{Fault}
-use Rattle.spoc_base.specs.declared.fault.Fault.TheVariants.{Form, Names}
+use Rattle.spoc_base.specs.declared.fault.Fault.TheVariants.{Names}
 use Rattle.spoc_lexer.specs.Tokens.{Tok, tokens_of}
 use Rattle.compile_core.specs.Narrow.{Narrow}
 use Rattle.compile_core.specs.Reading.{read_narrow}
 use Rattle.compile_core.specs.Consistent.{is_inconsistent}
-use Rattle.compile_core.specs.Outcome.{Written, written, outcome_of, outcome_of_tokens, outcome_of_narrow}
+use Rattle.compile_core.specs.Outcome.{Written, written, outcome_of_tokens, outcome_of_narrow}
 use Rattle.compile_core.specs.FileNames.{FilesHaveDistinctNames, file_names}
 
 one_name : (f : Narrow) → IsDistinct bytes_eq (file_names (written f))

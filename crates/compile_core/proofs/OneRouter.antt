@@ -1,25 +1,25 @@
 -- The zones, views, permits and walks of a policy of the narrow form: each network is a zone, and a walk crosses the one router once.
-use Rattle.std.proofs.Common.{◌≡◌, ℕ, zero, suc, ◌+◌, ◌-◌, ◌<◌, ◌≤◌, ◌⊎◌, inl, inr, Bool, true, false, not, cond, ◌&&◌, ◌||◌, List, [], ◌∷◌, ◌++◌, length, map, get_or, refl, sym, ap, subst, ◌∙◌, ⊎_elim, arith}
-use Rattle.std.specs.Prelude.{nat_lt, nat_le, ◌==◌, ◌↔◌, max, fold, filter, flat_map, slice_index, is_some, Option, Some, None, IsTrue}
+use Rattle.std.proofs.Common.{◌≡◌, ℕ, zero, suc, ◌+◌, ◌<◌, inl, inr, Bool, true, false, not, cond, ◌&&◌, ◌||◌, List, [], ◌∷◌, length, map, get_or, refl, sym, ap, subst, ◌∙◌, ⊎_elim, arith}
+use Rattle.std.specs.Prelude.{nat_lt, ◌==◌, max, fold, filter, IsTrue}
 use Rattle.std.specs.List.{list_any, list_all, range_with_len}
 use Rattle.std.specs.List.Sorted.{IsStrictlyIncreasing}
 use Rattle.std.proofs.lemmas.List.{length-map}
 use Rattle.std.proofs.lemmas.List.FromFn.{get_or-range_with_len}
-use Rattle.std.proofs.lemmas.Bool.{false≢true, cases_order, and_parts, and_from, eqb-true, eq-eqb, leb-true, le-leb, ltb-true, lt-ltb, or_left}
-use Rattle.policy_model.specs.Lists.{numbers_below, has, are_distinct}
-use Rattle.policy_model.specs.Policy.{Policy, net_of, iface_of, net_at, router_at, is_managed, router_of, all_nets}
-use Rattle.policy_model.specs.Paths.{Crossing, Reaches, leads, places_on, routers_on, is_through_router, crosses_managed, crosses_unmanaged}
-use Rattle.policy_model.specs.Zones.{Site, AreZones, IsSite, AreJoined, zone_of, zone_at, zone_count, nets_in}
-use Rattle.policy_model.specs.Tags.{Views, AreViews, IsActive, binds, zone_view, inner_tags}
+use Rattle.std.proofs.lemmas.Bool.{false≢true, and_parts, and_from, eqb-true, eq-eqb, lt-ltb, or_left}
+use Rattle.policy_model.specs.Lists.{has, are_distinct}
+use Rattle.policy_model.specs.Policy.{Policy, net_at, router_at, is_managed}
+use Rattle.policy_model.specs.Paths.{Crossing, leads, places_on, routers_on, is_through_router, crosses_managed, crosses_unmanaged}
+use Rattle.policy_model.specs.Zones.{Site, IsSite, AreJoined, zone_of, zone_at, zone_count}
+use Rattle.policy_model.specs.Tags.{Views, AreViews, binds, zone_view}
 use Rattle.policy_model.specs.Objects.{AreAreas}
-use Rattle.policy_model.specs.Walks.{is_crossing, is_walk, is_allowed_walk, is_unrestricted, allowed_walks, enters_on_way}
+use Rattle.policy_model.specs.Walks.{is_crossing, is_walk, is_allowed_walk, is_unrestricted, allowed_walks}
 use Rattle.policy_model.specs.Blocks.{is_on_path}
-use Rattle.policy_model.specs.Headline.{Meaning, IsMeaning}
+use Rattle.policy_model.specs.Headline.{IsMeaning}
 use Rattle.policy_model.proofs.AllWalks.{IsIn, parts_of, some_walk}
 use Rattle.policy_model.proofs.Tested.{crossing_below}
-use Rattle.compile_core.specs.Narrow.{Network, Interface, Router, Service, Narrow}
+use Rattle.compile_core.specs.Narrow.{Network, Narrow}
 use Rattle.compile_core.specs.Consistent.{network_names}
-use Rattle.compile_core.specs.Accepted.{net_in, iface_in, service_in, policy_in, site_in, views_in, meaning_in}
+use Rattle.compile_core.specs.Accepted.{net_in, iface_in, policy_in, site_in, views_in, meaning_in}
 use Rattle.compile_core.proofs.Facts.{Fits, iface_router, no_binds, is_or_not}
 
 pub range_count : (a n : ℕ) → length (range_with_len a n) ≡ n

@@ -1,36 +1,34 @@
 -- The permits of a policy of the narrow form, and the lines of one permit.
-use Rattle.std.proofs.Common.{◌≡◌, ℕ, zero, suc, ◌+◌, ◌-◌, ◌*◌, ◌<◌, ◌≤◌, ◌^◌, ◌%◌, ◌⊎◌, inl, inr, Bool, true, false, not, cond, ◌&&◌, List, [], ◌∷◌, ◌++◌, length, map, get_or, refl, sym, ap, subst, ◌∙◌, ⊎_elim, arith}
-use Rattle.std.specs.Prelude.{nat_lt, ◌==◌, filter, flat_map, slice_get, slice_index_or, unwrap_or, option_map, Option, Some, None}
+use Rattle.std.proofs.Common.{◌≡◌, ℕ, suc, ◌+◌, ◌-◌, ◌<◌, ◌≤◌, ◌^◌, inl, inr, true, false, not, ◌&&◌, List, [], ◌∷◌, ◌++◌, length, map, refl, sym, ap, ◌∙◌, arith}
+use Rattle.std.specs.Prelude.{◌==◌, flat_map, option_map, Some}
 use Rattle.std.specs.Option.{option_map_or}
-use Rattle.std.specs.List.{range_with_len}
-use Rattle.std.proofs.lemmas.List.{append-nil, get_or-map, length-map}
+use Rattle.std.proofs.lemmas.List.{append-nil, length-map}
 use Rattle.std.proofs.lemmas.List.Concat.{flat_map-cons}
 use Rattle.std.proofs.lemmas.Nat.{pow_pos}
-use Rattle.std.proofs.lemmas.Bool.{false≢true, eqb-true, eq-eqb}
-use Rattle.spoc_base.specs.Address.{Cidr, IsCidr, Interval, addresses, size_of, cover_of, block_at, is_inside, any_address}
+use Rattle.std.proofs.lemmas.Bool.{eqb-true, eq-eqb}
+use Rattle.spoc_base.specs.Address.{Cidr, Interval, addresses, cover_of, block_at, is_inside}
 use Rattle.spoc_base.specs.Boxes.{TransportBox, TcpPorts, all_ports}
 use Rattle.spoc_base.proofs.Blocks.{block_fits}
 use Rattle.policy_model.specs.Policy as model
 use Rattle.policy_model.specs.Policy.{Policy, ObjectExpr, OneNet, OfUser, net_of}
 use Rattle.policy_model.specs.Lists.{numbers_below, pairs_of}
-use Rattle.policy_model.specs.Zones.{Site, zone_of, nets_in}
+use Rattle.policy_model.specs.Zones.{zone_of, nets_in}
 use Rattle.policy_model.specs.Objects.{Object, NetObject}
 use Rattle.policy_model.specs.Permits.{End, Permit, net_end, ends_of, ends_in, rule_permits, service_permits, permits_of}
-use Rattle.policy_model.specs.Places.{range_in, prefix_in, moved_range}
+use Rattle.policy_model.specs.Places.{range_in, moved_range}
 use Rattle.policy_model.specs.Filters.{Line}
-use Rattle.policy_model.specs.Blocks.{permit_at, no_permit, end_cover, permit_lines}
+use Rattle.policy_model.specs.Blocks.{end_cover, permit_lines}
 use Rattle.policy_model.proofs.AllWalks.{IsIn}
 use Rattle.list_laws.proofs.Members.{from_filter}
-use Rattle.list_laws.proofs.Blocks.{IsBlock}
 use Rattle.list_laws.proofs.CoveringSteps.{IsLargest, cover_of-step, cover_of-end, behind}
 use Rattle.policy_laws.specs.Secured.{IsPrefix}
 use Rattle.policy_laws.proofs.Placed.{from_numbers}
-use Rattle.compile_core.specs.Narrow.{Network, Interface, Router, Service, Narrow}
-use Rattle.compile_core.specs.Consistent.{network_names, number_in, interface_nets, prefixes}
+use Rattle.compile_core.specs.Narrow.{Network, Service, Narrow}
+use Rattle.compile_core.specs.Consistent.{network_names, number_in, interface_nets}
 use Rattle.compile_core.specs.Entries.{one_port}
-use Rattle.compile_core.specs.Accepted.{net_in, iface_in, service_in, policy_in, site_in, views_in}
-use Rattle.compile_core.proofs.Facts.{Fits, IsServed, known_number, own_is}
-use Rattle.compile_core.proofs.OneRouter.{zone_is, none_pass, view_is, range_count}
+use Rattle.compile_core.specs.Accepted.{service_in, policy_in, site_in}
+use Rattle.compile_core.proofs.Facts.{Fits, IsServed, known_number}
+use Rattle.compile_core.proofs.OneRouter.{zone_is, none_pass, range_count}
 use Rattle.compile_core.proofs.Premises.{prefix_is}
 
 single : {A B : Type 0} (g : A → List B) (x : A) → flat_map g (x ∷ []) ≡ g x

@@ -1,34 +1,33 @@
 -- What an accepted policy of the narrow form secures: its shape, distinct prefixes, and that all its hops are direct.
-use Rattle.std.proofs.Common.{◌≡◌, ℕ, zero, suc, ◌+◌, ◌<◌, ◌≤◌, ◌⊎◌, inl, inr, Bool, true, false, not, cond, ◌&&◌, ◌||◌, List, [], ◌∷◌, ◌++◌, length, map, get_or, refl, sym, ap, subst, ◌∙◌, ⊎_elim, arith}
-use Rattle.std.specs.Prelude.{nat_lt, nat_le, ◌==◌, filter, flat_map, find, unwrap_or, option_map, option_to_list, Option, Some, None, IsTrue, IfSome, slice_index_or}
+use Rattle.std.proofs.Common.{◌≡◌, ℕ, zero, suc, ◌<◌, inl, inr, Bool, true, false, not, cond, ◌&&◌, List, [], ◌∷◌, ◌++◌, length, map, refl, sym, ap, subst, ◌∙◌, ⊎_elim, arith}
+use Rattle.std.specs.Prelude.{nat_lt, nat_le, ◌==◌, filter, flat_map, find, unwrap_or, option_map, option_to_list, Option, Some, None, IsTrue, slice_index_or}
 use Rattle.std.specs.List.{list_any, list_all}
 use Rattle.std.proofs.lemmas.List.{length-map}
 use Rattle.std.proofs.lemmas.List.Concat.{flat_map-cons}
-use Rattle.std.proofs.lemmas.Bool.{false≢true, and_parts, and_from, eqb-true, eq-eqb, leb-true, le-leb, ltb-true, lt-ltb}
+use Rattle.std.proofs.lemmas.Bool.{false≢true, and_parts, and_from, eq-eqb, le-leb, ltb-true}
 use Rattle.spoc_base.specs.Address.{Cidr, is_inside, same_prefix, prefix_holds}
 use Rattle.policy_model.specs.Lists.{has, once_each, sorted_by}
 use Rattle.policy_model.specs.Policy as model
 use Rattle.policy_model.specs.Policy.{Policy, net_of, iface_of, net_at, router_at, all_nets}
 use Rattle.policy_model.specs.Paths.{Crossing}
-use Rattle.policy_model.specs.Zones.{Site, zone_of, zone_at}
+use Rattle.policy_model.specs.Zones.{zone_of, zone_at}
 use Rattle.policy_model.specs.Walks.{is_allowed_walk, allowed_walks, all_paths}
-use Rattle.policy_model.specs.Tags.{Views, zone_view, router_view}
+use Rattle.policy_model.specs.Tags.{zone_view, router_view}
 use Rattle.policy_model.specs.Places.{prefix_in}
 use Rattle.policy_model.specs.Permits.{Permit}
-use Rattle.policy_model.specs.Routes.{NextHop, Route, same_next_hop, next_hops, hops_beyond, hops_on, hops_of, is_used, routes_by, all_routes, route_table, is_static, is_before, is_inherited, connected_entries, entry_of, lookup}
-use Rattle.policy_model.specs.Faults.{are_one_prefix, is_same_prefix, is_translated_inside, has_tag, lacks_address, has_bare_hop, has_two_hops}
-use Rattle.policy_model.specs.Passing.{Config, config_of, no_config}
+use Rattle.policy_model.specs.Routes.{NextHop, Route, same_next_hop, hops_beyond, hops_on, hops_of, is_used, routes_by, all_routes, route_table, is_static, is_before, is_inherited, connected_entries, entry_of, lookup}
+use Rattle.policy_model.specs.Faults.{are_one_prefix, is_same_prefix, is_translated_inside, lacks_address, has_bare_hop, has_two_hops}
+use Rattle.policy_model.specs.Passing.{no_config}
 use Rattle.policy_model.proofs.AllWalks.{IsIn}
-use Rattle.list_laws.proofs.Members.{from_filter, some_in, in_either}
+use Rattle.list_laws.proofs.Members.{from_filter, some_in}
 use Rattle.list_laws.proofs.Tables.{from_flat_map}
 use Rattle.list_laws.proofs.Nesting.{same_parts, equal_from_same, holds_net}
-use Rattle.policy_laws.specs.Secured.{IsNet, IsEnd, IsPrefix, AreSecured}
 use Rattle.policy_laws.specs.Shaped.{IsShaped, HasDistinctPrefixes, names_hosts}
-use Rattle.policy_laws.specs.Routed.{IsWired, HasClearRoutes, AreRouted, HaveTables}
+use Rattle.policy_laws.specs.Routed.{IsWired, HasClearRoutes, HaveTables}
 use Rattle.policy_laws.proofs.Placed.{below_count}
-use Rattle.compile_core.specs.Narrow.{Network, Interface, Router, Service, Narrow}
+use Rattle.compile_core.specs.Narrow.{Service, Narrow}
 use Rattle.compile_core.specs.Consistent.{network_names}
-use Rattle.compile_core.specs.Accepted.{net_in, iface_in, service_in, policy_in, site_in, views_in, meaning_in, config_in}
+use Rattle.compile_core.specs.Accepted.{net_in, iface_in, service_in, policy_in, site_in, views_in, config_in}
 use Rattle.compile_core.proofs.Facts.{Fits, no_nats, is_or_not}
 use Rattle.compile_core.proofs.OneRouter.{zone_is, zone_at_is, router_is, one_step, none_pass}
 

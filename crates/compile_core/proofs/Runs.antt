@@ -1,9 +1,9 @@
 -- The sorted entries, interface by interface.
-use Rattle.std.proofs.Common.{◌≡◌, ℕ, zero, suc, ◌+◌, ◌<◌, ◌≤◌, ◌⊎◌, inl, inr, Bool, true, false, not, cond, ◌&&◌, ◌||◌, List, [], ◌∷◌, ◌++◌, length, take, drop, refl, sym, ap, subst, ◌∙◌, ⊎_elim, arith}
-use Rattle.std.specs.Prelude.{nat_lt, nat_le, ◌==◌, filter, ⊤}
+use Rattle.std.proofs.Common.{◌≡◌, ℕ, suc, ◌+◌, ◌<◌, ◌≤◌, ◌⊎◌, inl, inr, Bool, true, false, not, cond, ◌&&◌, List, [], ◌∷◌, ◌++◌, take, drop, refl, sym, ap, subst, ◌∙◌, ⊎_elim, arith}
+use Rattle.std.specs.Prelude.{nat_le, ◌==◌, filter}
 use Rattle.std.specs.List.{prefix_len, IsDistinct, AllByRecursion, list_any}
 use Rattle.std.specs.List.Sorted.{IsPermutation}
-use Rattle.std.proofs.lemmas.Bool.{false≢true, eqb-true, eq-eqb, leb-true, le-leb, and_parts, and_from}
+use Rattle.std.proofs.lemmas.Bool.{false≢true, eqb-true, eq-eqb, leb-true, le-leb}
 use Rattle.std.proofs.lemmas.List.Sorted.{list_any-IsPermutation}
 use Rattle.std.proofs.lemmas.Map.Keys.{IsDistinct-IsPermutation}
 use Rattle.policy_model.specs.Lists.{sorted_by}
@@ -12,7 +12,7 @@ use Rattle.list_laws.proofs.Members.{from_filter, in_either, some_in, some_of}
 use Rattle.list_laws.proofs.Tables.{from_sorted, in_sorted}
 use Rattle.compile_core.specs.declared.entry.Entry.{Entry}
 use Rattle.compile_core.specs.Narrow.{Service}
-use Rattle.compile_core.specs.Entries.{is_before, less_then, back_number, Climbs, Numbered, ends_entries, service_entries, entries_from, all_entries, entries_at}
+use Rattle.compile_core.specs.Entries.{is_before, back_number, Climbs, Numbered, service_entries, entries_from}
 use Rattle.compile_core.proofs.Ascending.{IsOrder, then_by, nothing_first, Ascending, Unlike, Climbing, ascends, ascending_equal, filter_ascends, filter_unlike, sorted_ascends, is_or_not}
 
 -- ---- the order

@@ -1,33 +1,32 @@
 -- The list at an interface is made of the interface's entries.
-use Rattle.std.proofs.Common.{◌≡◌, ℕ, zero, suc, ◌+◌, ◌-◌, ◌<◌, ◌≤◌, ◌⊎◌, inl, inr, Bool, true, false, not, cond, ◌&&◌, ◌||◌, List, [], ◌∷◌, ◌++◌, length, map, get_or, refl, sym, ap, subst, ◌∙◌, ⊎_elim, arith}
-use Rattle.std.specs.Prelude.{nat_lt, ◌==◌, filter, flat_map, slice_get, slice_index_or, unwrap_or, is_some, Option, Some, None}
-use Rattle.std.specs.Option.{option_map_or}
-use Rattle.std.specs.List.{list_any, enumerate_from}
+use Rattle.std.proofs.Common.{◌≡◌, ℕ, zero, suc, ◌-◌, ◌<◌, inl, inr, Bool, true, false, not, cond, ◌&&◌, List, [], ◌∷◌, ◌++◌, length, map, get_or, refl, sym, ap, subst, ◌∙◌, ⊎_elim, arith}
+use Rattle.std.specs.Prelude.{◌==◌, filter, flat_map, slice_get, unwrap_or, Some}
+use Rattle.std.specs.List.{list_any}
 use Rattle.std.proofs.lemmas.List.{append-nil, get_or-map, length-map, map-append}
 use Rattle.std.proofs.lemmas.List.Concat.{flat_map-cons}
 use Rattle.std.proofs.lemmas.Bool.{false≢true, and_parts, and_from, eqb-true, eq-eqb}
-use Rattle.spoc_base.specs.Address.{Cidr, Interval, addresses, is_inside, any_address}
+use Rattle.spoc_base.specs.Address.{Cidr, is_inside, any_address}
 use Rattle.spoc_base.specs.Boxes.{TransportBox, TcpPorts, all_ports}
-use Rattle.policy_model.specs.Lists.{numbers_below, pairs_of, is_nothing}
-use Rattle.policy_model.specs.Policy.{Policy, net_of, net_at, router_at, router_of, all_nets}
-use Rattle.policy_model.specs.Zones.{Site, zone_at}
-use Rattle.policy_model.specs.Tags.{Views, zone_view}
-use Rattle.policy_model.specs.Permits.{End, Permit, net_end, mirrors_of, has_replies, permits_of}
-use Rattle.policy_model.specs.Places.{prefix_in, length_in}
+use Rattle.policy_model.specs.Lists.{numbers_below, pairs_of}
+use Rattle.policy_model.specs.Policy.{net_of, router_of, all_nets}
+use Rattle.policy_model.specs.Zones.{zone_at}
+use Rattle.policy_model.specs.Tags.{zone_view}
+use Rattle.policy_model.specs.Permits.{Permit, net_end, mirrors_of, has_replies, permits_of}
+use Rattle.policy_model.specs.Places.{prefix_in}
 use Rattle.policy_model.specs.Filters.{Line, deny_all}
-use Rattle.policy_model.specs.Blocks.{NetPair, all_pairs, is_ios_at, runs_ios, is_on_path, pairs_on_path, permit_lines, Block, places_where, permit_at, no_permit, permits_between, replied_between, is_part_of, is_round, is_seen, view_here, pair_lines, encloses, reaches_into, is_closed, block_of, is_needed, depth_of, placement, closing_lines, block_lines, list_at}
-use Rattle.policy_model.proofs.AllWalks.{IsIn, from_map, in_map, in_filter, in_flat_map, in_pairs, in_numbers, in_front, in_back}
-use Rattle.list_laws.proofs.Members.{from_filter, some_in, in_either}
+use Rattle.policy_model.specs.Blocks.{NetPair, all_pairs, is_ios_at, runs_ios, is_on_path, pairs_on_path, permit_lines, Block, permit_at, no_permit, permits_between, replied_between, is_part_of, is_round, pair_lines, encloses, reaches_into, is_closed, block_of, is_needed, depth_of, placement, closing_lines, block_lines, list_at}
+use Rattle.policy_model.proofs.AllWalks.{IsIn, from_map}
+use Rattle.list_laws.proofs.Members.{from_filter, some_in}
 use Rattle.list_laws.proofs.Tables.{from_flat_map}
-use Rattle.policy_laws.proofs.Placed.{below_count, from_numbers}
-use Rattle.policy_laws.proofs.PermitLines.{places_sound, enumerate_reaches}
+use Rattle.policy_laws.proofs.Placed.{below_count}
+use Rattle.policy_laws.proofs.PermitLines.{places_sound}
 use Rattle.compile_core.specs.declared.entry.Entry.{Entry}
-use Rattle.compile_core.specs.Narrow.{Network, Interface, Router, Service, Narrow}
-use Rattle.compile_core.specs.Consistent.{network_names, number_in, interface_nets, prefixes}
-use Rattle.compile_core.specs.Entries.{Numbered, numbered_in, prefix_at, shallowness, one_port, box_for, port_at, line_of, service_entries, entries_from, all_entries}
-use Rattle.compile_core.specs.Accepted.{net_in, iface_in, service_in, policy_in, site_in, views_in}
-use Rattle.compile_core.proofs.Facts.{Fits, IsServed, known_number, own_is, is_or_not}
-use Rattle.compile_core.proofs.OneRouter.{zone_is, none_pass, router_is, on_way, way_on, IsOnWay}
+use Rattle.compile_core.specs.Narrow.{Network, Service, Narrow}
+use Rattle.compile_core.specs.Consistent.{network_names, number_in, prefixes}
+use Rattle.compile_core.specs.Entries.{Numbered, numbered_in, prefix_at, one_port, box_for, port_at, line_of}
+use Rattle.compile_core.specs.Accepted.{net_in, policy_in, site_in, views_in}
+use Rattle.compile_core.proofs.Facts.{Fits, known_number, own_is, is_or_not}
+use Rattle.compile_core.proofs.OneRouter.{router_is}
 use Rattle.compile_core.proofs.Premises.{prefix_is}
 use Rattle.compile_core.proofs.PermitsOf.{permits_are, line_between, line_is, permit_in}
 

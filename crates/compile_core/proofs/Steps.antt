@@ -1,5 +1,5 @@
 -- One step more of loops that go over a list.
-use Rattle.std.proofs.Common.{◌≡◌, ℕ, suc, ◌+◌, ◌<◌, List, [], ◌∷◌, ◌++◌, length, map, take, drop, get_or, refl, sym, ap, subst, ◌∙◌, append_assoc, arith}
+use Rattle.std.proofs.Common.{◌≡◌, ℕ, suc, ◌+◌, ◌<◌, List, [], ◌∷◌, ◌++◌, length, map, take, drop, get_or, refl, sym, ap, ◌∙◌, append_assoc, arith}
 use Rattle.std.specs.Prelude.{flat_map}
 use Rattle.std.proofs.Math.Seq.{drop-cons}
 use Rattle.std.proofs.lemmas.List.Concat.{flat_map-cons}
@@ -11,7 +11,7 @@ use Rattle.std.specs.List.{prefix_len}
 use Rattle.std.specs.List.Sorted.{IsPermutation}
 use Rattle.std.proofs.lemmas.List.Sums.{sum_by-cons}
 use Rattle.std.proofs.lemmas.List.Folds.{length-prefix_len}
-use Rattle.std.proofs.lemmas.List.{length-append, length-map, length-drop, drop-drop}
+use Rattle.std.proofs.lemmas.List.{length-append, length-map, drop-drop}
 use Rattle.std.proofs.lemmas.Grind.{flat_map-append}
 use Rattle.policy_model.specs.Filters.{Line, deny_all}
 use Rattle.compile_core.specs.declared.reading.InterfaceDecl.{InterfaceDecl}
@@ -20,7 +20,7 @@ use Rattle.compile_core.specs.DeviceText.{line_text, list_text, lists_text, bind
 use Rattle.compile_core.specs.Entries.{Numbered, service_entries, entries_from, all_entries, entries_at, lines_at, lists_from, line_of, is_before, Climbs}
 use Rattle.compile_core.specs.Seen.{service_of, interface_of}
 use Rattle.compile_core.proofs.Ascending.{Ascending, Unlike}
-use Rattle.compile_core.proofs.Runs.{order, all_ascend, runs_sorted, entries_unlike, is_from, is_at, left_first, run_is, left_is}
+use Rattle.compile_core.proofs.Runs.{order, all_ascend, runs_sorted, entries_unlike, is_from, run_is, left_is}
 
 -- what a read past the end of the services gives
 abbrev pub no_service : ServiceDecl

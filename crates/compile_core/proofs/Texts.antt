@@ -1,6 +1,6 @@
 -- Texts put one behind the other.
-use Rattle.std.proofs.Common.{◌≡◌, ℕ, suc, Bool, true, false, cond, List, [], ◌∷◌, ◌++◌, length, map, refl, sym, ap, ◌∙◌, append_assoc}
-use Rattle.std.specs.Prelude.{codes, filter, sum_by, flat_map}
+use Rattle.std.proofs.Common.{◌≡◌, ℕ, suc, Bool, true, false, cond, List, [], ◌∷◌, ◌++◌, length, map, refl, ap, ◌∙◌}
+use Rattle.std.specs.Prelude.{codes, filter, flat_map}
 use Rattle.policy_model.specs.Filters.{Line}
 use Rattle.compile_core.specs.DeviceText.{device_text, lists_text, binding_text}
 use Rattle.compile_core.specs.Outcome.{Counts, summary_text, count_line}

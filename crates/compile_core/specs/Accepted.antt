@@ -1,5 +1,5 @@
 -- What is claimed of each policy that is compiled.
-use Rattle.std.specs.Prelude.{◌≡◌, ℕ, ◌<◌, Bool, true, false, List, [], ◌∷◌, length, map, option_and_then, Option, Some, None, Result, Ok, Err}
+use Rattle.std.specs.Prelude.{◌≡◌, ℕ, ◌<◌, true, false, List, [], ◌∷◌, length, map, Option, Some, None, Result, Ok, Err}
 use Rattle.spoc_base.specs.Boxes.{TcpPorts, all_ports}
 use Rattle.spoc_base.specs.declared.dialect.Dialect.TheVariants.{Ios}
 use Rattle.spoc_lexer.specs.Tokens.{Tok, tokens_of}

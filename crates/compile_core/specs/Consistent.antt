@@ -4,7 +4,7 @@ use Rattle.std.specs.Option.{option_map_or}
 use Rattle.std.specs.List.{list_any}
 use Rattle.std.specs.Str.{bytes_eq}
 use Rattle.spoc_base.specs.Address.{Cidr, size_of, addresses, interval_meets, prefix_holds}
-use Rattle.compile_core.specs.Narrow.{Network, Interface, Router, Service, Narrow}
+use Rattle.compile_core.specs.Narrow.{Interface, Service, Narrow}
 
 -- one of the names stood before, or stands twice
 abbrev pub repeats : List (List ℕ) → List (List ℕ) → Bool

@@ -5,7 +5,7 @@ use Rattle.spoc_base.specs.Address.{Cidr, Interval, any_address}
 use Rattle.spoc_base.specs.Boxes.{TransportBox, TcpPorts, all_ports}
 use Rattle.policy_model.specs.Lists.{sorted_by}
 use Rattle.policy_model.specs.Filters.{Line, deny_all}
-use Rattle.compile_core.specs.Narrow.{Network, Interface, Router, Service, Narrow}
+use Rattle.compile_core.specs.Narrow.{Interface, Service, Narrow}
 use Rattle.compile_core.specs.Consistent.{number_in, network_names, interface_nets, prefixes}
 use Rattle.compile_core.specs.declared.entry.Entry.{Entry}
 

@@ -4,7 +4,6 @@ use Rattle.std.specs.Fmt.{decimal}
 use Rattle.spoc_base.specs.declared.fault.Fault.{Fault}
 use Rattle.spoc_base.specs.declared.fault.Fault.TheVariants.{Form, Names}
 use Rattle.spoc_lexer.specs.Tokens.{Tok, tokens_of}
-use Rattle.policy_model.specs.Filters.{Line}
 use Rattle.compile_core.specs.Narrow.{Network, Interface, Service, Narrow}
 use Rattle.compile_core.specs.Reading.{read_narrow}
 use Rattle.compile_core.specs.Consistent.{number_in, is_inconsistent}

@@ -18,8 +18,5 @@ mod text;
 mod words;
 
 pub use compiling::{Compiled, DeviceFile, Summary, compile, summary_text};
-<<<<<<< HEAD
 pub use distinct::device_files_have_distinct_names;
-=======
 pub use laws::accepted_policies_are_exact;
->>>>>>> 8b5d5a19b84049ec0d4ebac475c3293b390257e2

@@ -1,12 +1,11 @@
 -- Reading one file after another.
-use Rattle.std.proofs.Common.{◌≡◌, ◌≤◌, ◌-◌, ℕ, min, Bool, true, false, nat_lt, List, [], ◌∷◌, ◌++◌, Some, length, map, All, IsSome, refl, sym, ap, subst, ◌∙◌, arith, append_assoc, cond}
+use Rattle.std.proofs.Common.{◌≡◌, ◌≤◌, ◌-◌, ℕ, min, false, nat_lt, List, [], ◌∷◌, ◌++◌, Some, length, map, IsSome, refl, sym, ap, ◌∙◌, arith, append_assoc, cond}
 use Rattle.std.proofs.lemmas.List.{map-append}
 use Rattle.std.proofs.lemmas.List.Elements.{All-tail}
-use Rattle.std.proofs.lemmas.Grind.{common_steps}
 use Rattle.std.specs.Option.{unwrap_or}
 use Rattle.spoc_io.specs.Files.{Files, bytes_at}
 use Rattle.spoc_base.specs.declared.place.Source.{Source}
-use Rattle.spoc_run.specs.Policy.{with_bytes, first_large, most_of_one, most_of_all}
+use Rattle.spoc_run.specs.Policy.{with_bytes, first_large, most_of_one}
 use Rattle.compile_core.specs.Answer.{pair_of}
 use Rattle.spoc_run.specs.Sources.{ReadsOn, IsLargeOf}
 use Rattle.spoc_run.specs.declared.load.LoadFail.{LoadFail}

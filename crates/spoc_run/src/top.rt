@@ -8,12 +8,14 @@ ghost use Rattle.spoc_run.specs.Policy.{policy_of};
 ghost use Rattle.spoc_run.specs.Outcome.{is_compile, text_of};
 ghost use Rattle.compile_core.specs.Answer.{file_of};
 ghost use Rattle.spoc_run.specs.Answer.{bytes_of_message};
+ghost use Rattle.spoc_run.specs.Held.{HoldsExact};
 ghost use Rattle.spoc_run.specs.Puts.{PutsAll, PutsSome};
 ghost use Rattle.spoc_run.specs.Caused.{IsCaused, InsteadOf, NothingFailed, IsSettled, is_either, files_of};
 
 use crate::answer::{Answer, Message, answer_for_fail, answer_for_sources, plain};
 use crate::deliver::put_all;
 use crate::load::load;
+use compile_core::accepted_policies_are_exact;
 use spoc_base::Text;
 use spoc_io::{Folder, Target, TextOut};
 use std::alloc::Global;
@@ -128,6 +130,9 @@ pub fn run<P: Folder, C: Folder + Target, O: TextOut>(
     ensures text_part { result ≡ 4 → InsteadOf (IsCaused words.now (P.files policy.old) (P.faults policy.old) (P.faults policy.new) (P.larges policy.old) (P.larges policy.new)) (P.files policy.old) (O.text out.old) (O.text out.new) }
     ensures silent { result ≡ 4 → out.new ≡ out.old ⊎ Rose (O.faults out.old) (O.faults out.new) }
 
+    // After 0 the device files that the target holds do exactly what the policy says: the main theorem.
+    ensures exact { result ≡ 0 → ForSome (P.files policy.old) (λ fs. ForSome (C.files code.new) (λ held. HoldsExact (policy_of fs) held)) }
+
     // Where the words match and nothing fails, a policy within the limits is compiled or refused, as it says, unless memory runs out.
     ensures settled { is_compile words.now ≡ true → NothingFailed (P.faults policy.old) (P.faults policy.new) (C.Target.faults code.old) (C.Target.faults code.new) (O.faults out.old) (O.faults out.new) → ForSome (P.files policy.old) (λ fs. IsSettled (policy_of fs) result) }
 
@@ -137,6 +142,7 @@ pub fn run<P: Folder, C: Folder + Target, O: TextOut>(
     // The policy's folder is as before.
     ensures same { P.files policy.new ≡ P.files policy.old }
 {
+    accepted_policies_are_exact();
     let answer = decide(alloc, words, policy);
     deliver(code, out, &answer)
 }

@@ -1,7 +1,5 @@
-use Rattle.std.proofs.Common.{◌≡◌, ap, ◌∙◌, map}
-use Rattle.std.specs.Prelude.{List, ℕ, sum_by, length}
+use Rattle.std.proofs.Common.{map}
 use Rattle.compile_core.specs.Outcome.{device_of}
-use Rattle.compile_core.specs.DeviceText.{device_text}
 use Rattle.compile_core.specs.Entries.{lists_from}
 use Rattle.compile_core.specs.Narrow.{Interface}
 use Rattle.compile_core.specs.Seen.{interface_of, service_of, numbered_of}

@@ -1,4 +1,4 @@
-use Rattle.std.proofs.Common.{◌≡◌, ℕ, ap, sym, ◌∙◌, map}
+use Rattle.std.proofs.Common.{sym, ◌∙◌}
 use Rattle.std.proofs.lemmas.List.{length-map}
 use Rattle.compile_core.specs.Outcome.{is_local, counts_in}
 use Rattle.compile_core.specs.Seen.{service_of, network_of, numbered_of}

@@ -1,4 +1,3 @@
-use Rattle.compile_core.specs.Entries.{entries_from}
 use Rattle.compile_core.specs.Seen.{numbered_of}
 use Rattle.compile_core.proofs.Steps.{entries_more, no_service}
 use Rattle.compile_core.proofs.entry.all.Goals as goal

@@ -1,5 +1,4 @@
-use Rattle.std.proofs.Common.{◌++◌, map}
-use Rattle.std.specs.Prelude.{flat_map}
+use Rattle.std.proofs.Common.{map}
 use Rattle.compile_core.specs.DeviceText.{line_text}
 use Rattle.compile_core.specs.Entries.{line_of}
 use Rattle.compile_core.specs.Seen.{service_of, numbered_of}

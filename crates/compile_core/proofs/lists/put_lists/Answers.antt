@@ -1,8 +1,6 @@
-use Rattle.std.proofs.Common.{map, refl, drop, arith}
-use Rattle.std.specs.Prelude.{sum_by, ◌++◌, length}
-use Rattle.compile_core.specs.DeviceText.{lists_text}
-use Rattle.compile_core.specs.Entries.{all_entries, lists_from}
-use Rattle.compile_core.specs.Seen.{interface_of, service_of, numbered_of}
+use Rattle.std.proofs.Common.{map, refl, arith}
+use Rattle.compile_core.specs.Entries.{all_entries}
+use Rattle.compile_core.specs.Seen.{service_of, numbered_of}
 use Rattle.compile_core.proofs.Steps.{no_interface, left_here, text_here, count_here}
 use Rattle.compile_core.proofs.Runs.{left_first, all_ascend, entries_unlike}
 use Rattle.compile_core.proofs.lists.put_lists.Goals as goal

@@ -1,6 +1,6 @@
 -- What the files compile to is the outcome of the compiler's definition.
-use Rattle.std.proofs.Common.{map, Ok, Err, ◌≡◌}
-use Rattle.std.proofs.lemmas.Result.{IfOk-weaker, IfErr-weaker}
+use Rattle.std.proofs.Common.{map}
+use Rattle.std.proofs.lemmas.Result.{IfOk-weaker}
 use Rattle.compile_core.specs.Answer.{pair_of, written_of}
 use Rattle.spoc_run.specs.Outcome.{compiled_of}
 use Rattle.spoc_run.proofs.answer.compile_sources.Goals as goal

@@ -1,4 +1,4 @@
-use Rattle.std.proofs.Common.{◌≡◌, ◌≤◌, take, map}
+use Rattle.std.proofs.Common.{◌≤◌, take, map}
 use Rattle.spoc_io.specs.Causes.{BothTold}
 use Rattle.compile_core.specs.Answer.{file_of}
 use Rattle.spoc_run.specs.Puts.{PutsAll}

@@ -1,8 +1,6 @@
-use Rattle.std.proofs.Common.{◌≡◌, ◌≤◌, ◌++◌, All, map, IsSome, length}
+use Rattle.std.proofs.Common.{◌≡◌, ◌≤◌, All, length}
 use Rattle.std.specs.Option.{ForSome}
-use Rattle.spoc_io.specs.Files.{Files, bytes_at}
-use Rattle.spoc_run.specs.Policy.{with_bytes, first_large, most_of_all, most_of_one}
-use Rattle.compile_core.specs.Answer.{pair_of}
+use Rattle.spoc_run.specs.Policy.{most_of_all, most_of_one}
 use Rattle.spoc_run.specs.Sources.{ReadsOn}
 use Rattle.spoc_run.proofs.load.read_all.Given as goal
 
