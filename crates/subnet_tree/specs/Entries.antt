@@ -15,7 +15,7 @@ pub record Entry : Type 0 where
 abbrev pub HaveDistinctNumbers : List Entry → Type 0
 HaveDistinctNumbers items = AllPairs (λ e f. e.net ≢ f.net) items
 
--- no two items have one prefix
+-- no two networks have one prefix
 abbrev pub HaveDistinctPrefixes : List Entry → Type 0
 HaveDistinctPrefixes items = (e f : Entry) → Contains items e → Contains items f → e.prefix ≡ f.prefix → e.net ≡ f.net
 
@@ -27,7 +27,7 @@ longest items = option_map (λ e. e.net) (longest_by (λ e. e.prefix.len) items)
 abbrev pub place_in : List Entry → ℕ → Option ℕ
 place_in items a = longest (filter (λ e. prefix_holds e.prefix a) items)
 
--- the second prefix is part of the first, and shorter than it is the first
+-- the second prefix is part of the first, which is shorter
 abbrev pub encloses : Cidr → Cidr → Bool
 encloses outer p = is_inside p outer && nat_lt outer.len p.len
 
@@ -56,6 +56,7 @@ are_equal p q = (p.net == q.net) && (p.len == q.len)
 abbrev pub is_before : ℕ × ℕ → ℕ × ℕ → Bool
 is_before p q = nat_lt p.0 q.0 || ((p.0 == q.0) && nat_lt p.1 q.1)
 
+-- the pair, or the least one so far if the pair doesn't stand before it
 abbrev pub lesser : Option (ℕ × ℕ) → ℕ × ℕ → ℕ × ℕ
 lesser None p = p
 lesser (Some q) p = if is_before p q then p else q
@@ -64,6 +65,7 @@ lesser (Some q) p = if is_before p q then p else q
 abbrev pub lesser_of : Option (ℕ × ℕ) → Entry → Entry → Option (ℕ × ℕ)
 lesser_of least e f = if are_equal e.prefix f.prefix then Some (lesser least (e.net, f.net)) else least
 
+-- what is read past the end
 abbrev pub no_entry : Entry
 no_entry = record { net = 0; prefix = any_address }
 

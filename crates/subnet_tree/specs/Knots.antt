@@ -3,6 +3,7 @@ use Rattle.std.specs.Prelude.{◌≡◌, ℕ, zero, suc, ◌<◌, ◌≤◌, ◌
 use Rattle.spoc_base.specs.Address.{Cidr, prefix_holds, is_inside, any_address}
 use Rattle.subnet_tree.specs.Entries.{Entry}
 
+-- a network with its prefix, and the place of the next enclosing one
 pub record Knot : Type 0 where
   pub net : ℕ
   pub prefix : Cidr
@@ -35,6 +36,7 @@ entry_of_knot k = record { net = k.net; prefix = k.prefix }
 unfoldable pub picked : Cidr → List Knot → ℕ → List ℕ
 picked p ks n = map (λ k. k.net) (filter (λ k. is_inside k.prefix p) (take n ks))
 
+-- the network at the place above, if there is one
 abbrev pub above_at : List Knot → Option ℕ → Option ℕ → Option ℕ
 above_at ks (Some j) other = Some (knot_at ks j).net
 above_at ks None other = other

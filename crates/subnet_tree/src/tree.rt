@@ -68,7 +68,7 @@ impl Tree {
     }
 
     /// The network with the longest prefix that encloses that of `n`. `None` exactly where none
-    /// does.
+    /// does, or where `n` is no network of the tree.
     pub fn parent(&self, n: NetId) -> Option<NetId>
         ensures { option_map net_of result ≡ parent_in self.now n.0 }
     {
