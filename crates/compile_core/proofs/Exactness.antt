@@ -24,7 +24,8 @@ use Rattle.compile_core.specs.Reading.{read_narrow}
 use Rattle.compile_core.specs.Entries.{Numbered, numbered_in, lines_at, lists_from}
 use Rattle.compile_core.specs.DeviceText.{device_text}
 use Rattle.compile_core.specs.Outcome.{Written, written, device_of, outcome_of, outcome_of_tokens, outcome_of_narrow}
-use Rattle.compile_core.specs.Accepted.{iface_in, policy_in, site_in, views_in, meaning_in, config_in, narrow_from, narrow_in, AreExact}
+use Rattle.compile_core.specs.Accepted.{iface_in, policy_in, site_in, views_in, meaning_in, config_in, narrow_from, narrow_in, IsExactFile, AreExact}
+use Rattle.compile_core.proofs.Empty.{empty_is_exact}
 use Rattle.compile_core.proofs.Facts.{Fits, fits}
 use Rattle.compile_core.proofs.OneRouter.{is_meaning, router_is}
 use Rattle.compile_core.proofs.Premises.{shaped, wired, distinct_prefixes, clear_routes, tables}
@@ -118,18 +119,17 @@ from_tokens : (r : Result (List Tok) ℕ) (w : Written) → outcome_of_tokens r 
 from_tokens (Err offset) w h = cc
 from_tokens (Ok toks) w h = from_narrow (read_narrow toks) w h
 
-from_sources : (sources : List (List ℕ × List ℕ)) (w : Written) → outcome_of sources ≡ Ok w → IsCompiled (narrow_in sources) w
-from_sources [] w h = cc
-from_sources (s ∷ []) w h = from_tokens (tokens_of s.1) w h
-from_sources (s ∷ r ∷ rest) w h = cc
+from_sources : (s : List ℕ × List ℕ) (rest : List (List ℕ × List ℕ)) (w : Written) → outcome_of (s ∷ rest) ≡ Ok w → IsCompiled (narrow_in (s ∷ rest)) w
+from_sources s [] w h = from_tokens (tokens_of s.1) w h
+from_sources s (r ∷ rest) w h = cc
 
 written_files : (f : Narrow) → (written f).files ≡ (f.router.name, device_text f.router.name (map (λ i. i.hardware) f.router.interfaces) (config_in f).lists) ∷ []
 unfolding device_of
 written_files f = refl
 
-pub all_exact : (sources : List (List ℕ × List ℕ)) (w : Written) → outcome_of sources ≡ Ok w → AreExact sources w
-all_exact sources w h =
-    let c = from_sources sources w h in
+file_exact : (s : List ℕ × List ℕ) (rest : List (List ℕ × List ℕ)) (w : Written) → outcome_of (s ∷ rest) ≡ Ok w → IsExactFile (s ∷ rest) w
+file_exact s rest w h =
+    let c = from_sources s rest w h in
     let f = c.file in
     let ok = fits f c.fitting in
     record {
@@ -139,3 +139,7 @@ all_exact sources w h =
       files = sym (ap (λ (x : Written). x.files) c.made) ∙ written_files f;
       lists = λ i below. list_is_own f ok i below;
     }
+
+pub all_exact : (sources : List (List ℕ × List ℕ)) (w : Written) → outcome_of sources ≡ Ok w → AreExact sources w
+all_exact [] w h = record { exact = empty_is_exact; files = sym (ap (λ (r : Result Written Fault). (value_of w r).files) h) }
+all_exact (s ∷ rest) w h = file_exact s rest w h

@@ -1,4 +1,4 @@
--- There is one device file.
+-- There is one device file, or none.
 use Rattle.std.proofs.Common.{◌≡◌, ℕ, Bool, true, false, List, [], ◌∷◌, Option, Some, None, Result, Ok, Err, cond, subst}
 use Rattle.std.specs.Str.{bytes_eq}
 use Rattle.std.specs.List.{IsDistinct}
@@ -8,19 +8,23 @@ use Rattle.spoc_lexer.specs.Tokens.{Tok, tokens_of}
 use Rattle.compile_core.specs.Narrow.{Narrow}
 use Rattle.compile_core.specs.Reading.{read_narrow}
 use Rattle.compile_core.specs.Consistent.{is_inconsistent}
-use Rattle.compile_core.specs.Outcome.{Written, written, outcome_of_tokens, outcome_of_narrow}
+use Rattle.compile_core.specs.Outcome.{Written, written, nothing_written, outcome_of_tokens, outcome_of_narrow}
 use Rattle.compile_core.specs.FileNames.{FilesHaveDistinctNames, file_names}
 
 one_name : (f : Narrow) → IsDistinct bytes_eq (file_names (written f))
 unfolding IsDistinct
 one_name f = (tt, tt)
 
+no_names : IsDistinct bytes_eq (file_names nothing_written)
+unfolding IsDistinct
+no_names = tt
+
+ok_is : (a b : Written) → ◌≡◌ {A = Result Written Fault} (Ok a) (Ok b) → a ≡ b
+ok_is a b e = cc
+
 fault_or : (b : Bool) (f : Narrow) (w : Written) → cond {A = Result Written Fault} b (Err Names) (Ok (written f)) ≡ Ok w → IsDistinct bytes_eq (file_names w)
 fault_or true f w e = cc
 fault_or false f w e = subst (λ w. IsDistinct bytes_eq (file_names w)) (ok_is (written f) w e) (one_name f)
-  where
-    ok_is : (a b : Written) → ◌≡◌ {A = Result Written Fault} (Ok a) (Ok b) → a ≡ b
-    ok_is a b e = cc
 
 narrow_or : (o : Option Narrow) (w : Written) → outcome_of_narrow o ≡ Ok w → IsDistinct bytes_eq (file_names w)
 narrow_or None w e = cc
@@ -31,6 +35,6 @@ tokens_or (Err offset) w e = cc
 tokens_or (Ok toks) w e = narrow_or (read_narrow toks) w e
 
 pub distinct_names : FilesHaveDistinctNames
-distinct_names [] w e = cc
+distinct_names [] w e = subst (λ w. IsDistinct bytes_eq (file_names w)) (ok_is nothing_written w e) no_names
 distinct_names (s ∷ []) w e = tokens_or (tokens_of s.1) w e
 distinct_names (s ∷ r ∷ sources) w e = cc

@@ -78,10 +78,24 @@ narrow_in [] = None
 narrow_in (s ∷ []) = narrow_from (tokens_of s.1)
 narrow_in (s ∷ r ∷ sources) = None
 
+-- No sources say the empty policy: it has no networks, no routers and no services.
+abbrev pub empty_policy : Policy
+empty_policy = record { nets = []; hosts = []; routers = []; ifaces = []; tags = []; restrictions = []; groups = []; areas = []; aggregates = []; services = [] }
+
+-- The empty policy is exact with no configurations, and there are no files.
+pub record IsExactEmpty (written : Written) : Type 0 where
+  pub exact : IsExact empty_policy []
+  pub files : written.files ≡ []
+
 -- The sources say a policy, and the files are the texts of configurations with which its devices are exact. The list at each interface is the policy's.
-pub record AreExact (sources : List (List ℕ × List ℕ)) (written : Written) : Type 0 where
+pub record IsExactFile (sources : List (List ℕ × List ℕ)) (written : Written) : Type 0 where
   pub file : Narrow
   pub said : narrow_in sources ≡ Some file
   pub exact : IsExact (policy_in file) (config_in file ∷ [])
   pub files : written.files ≡ (file.router.name, device_text file.router.name (map (λ i. i.hardware) file.router.interfaces) (config_in file).lists) ∷ []
   pub lists : (i : ℕ) → i < length file.router.interfaces → list_in (policy_in file) (config_in file ∷ []) i ≡ list_at (site_in file) (views_in file) (permits_of (site_in file) []) i
+
+-- what is claimed of each policy that is compiled, by its sources
+abbrev pub AreExact : List (List ℕ × List ℕ) → Written → Type 0
+AreExact [] written = IsExactEmpty written
+AreExact (s ∷ sources) written = IsExactFile (s ∷ sources) written

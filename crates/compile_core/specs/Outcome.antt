@@ -62,9 +62,13 @@ outcome_of_tokens (Ok toks) = outcome_of_narrow (read_narrow toks)
 abbrev pub outcome_of_text : List ℕ → Result Written Fault
 outcome_of_text text = outcome_of_tokens (tokens_of text)
 
--- the files and the summary of a policy, or its fault, by the paths and texts of its sources
+-- what the empty policy gives: no files, and nothing to count
+abbrev pub nothing_written : Written
+nothing_written = record { files = []; counts = record { networks = 0; zones = 0; routers = 0; permits = 0; local = 0; lines = 0; routes = 0 } }
+
+-- The files and the summary of a policy, or its fault, by the paths and texts of its sources. No sources say the empty policy.
 abbrev pub outcome_of : List (List ℕ × List ℕ) → Result Written Fault
-outcome_of [] = Err Form
+outcome_of [] = Ok nothing_written
 outcome_of (s ∷ []) = outcome_of_text s.1
 outcome_of (s ∷ r ∷ sources) = Err Form
 

@@ -5,7 +5,7 @@ ghost use Rattle.compile_core.specs.Consistent.{number_in};
 ghost use Rattle.compile_core.specs.Entries.{numbered_in, lists_from};
 ghost use Rattle.compile_core.specs.DeviceText.{device_text};
 ghost use Rattle.compile_core.specs.Seen.{narrow_of, numbered_of, service_of, interface_of, network_of};
-ghost use Rattle.compile_core.specs.Outcome.{outcome_of, outcome_of_text, outcome_of_tokens, written, counts_in, is_local, summary_text, device_of};
+ghost use Rattle.compile_core.specs.Outcome.{outcome_of, outcome_of_text, outcome_of_tokens, written, nothing_written, counts_in, is_local, summary_text, device_of};
 ghost use Rattle.compile_core.specs.Answer.{pair_of, written_of, counts_of, IsRefusalOf};
 
 use crate::consistent::{Tables, resolve};
@@ -148,18 +148,37 @@ fn compile_text(alloc: Global, text: &[u8]) -> Result<Compiled, Refusal>
     Ok(compiled)
 }
 
-/// The device files and the summary of a policy. `Form` comes exactly where there isn't exactly
-/// one source, or it isn't of the narrow form: networks, one managed router that runs IOS, and
-/// services by TCP from one network to another. `Names` comes exactly where it is, but its names,
-/// addresses and services don't fit together.
+// What no sources compile to: no files, and a summary of zeros.
+fn nothing(alloc: Global) -> Compiled
+    ensures { written_of result ≡ nothing_written }
+{
+    Compiled {
+        files: Row::of(Vec::new(alloc)),
+        summary: Summary {
+            networks: 0,
+            zones: 0,
+            routers: 0,
+            permits: 0,
+            local: 0,
+            lines: 0,
+            routes: 0,
+        },
+    }
+}
+
+/// The device files and the summary of a policy. No sources say the empty policy, which has no
+/// files and a summary of zeros. `Form` comes exactly where there is more than one source, or the
+/// one isn't of the narrow form: networks, one managed router that runs IOS, and services by TCP
+/// from one network to another. `Names` comes exactly where it is, but its names, addresses and
+/// services don't fit together.
 pub fn compile(alloc: Global, sources: &[Source]) -> Result<Compiled, Refusal>
     requires { All (λ s. length s.text ≤ 4194304) sources.now }
     ensures ok { IfOk result (λ c. outcome_of (map pair_of sources.now) ≡ Ok (written_of c)) }
     ensures refused { IfErr result (IsRefusalOf (λ fault. outcome_of (map pair_of sources.now) ≡ Err fault)) }
 {
     match sources {
+        [] => Ok(nothing(alloc)),
         [source] => compile_text(alloc, source.text.bytes()),
-        [] => Err(Refusal::Policy(Fault::Form)),
         [_, _, ..] => Err(Refusal::Policy(Fault::Form)),
     }
 }

@@ -1,7 +1,7 @@
 //! From the sources of a policy to the files of its devices.
 //!
 //! So far a policy is one file of a narrow form: networks, one managed router that runs IOS, and
-//! services by TCP from one network to another.
+//! services by TCP from one network to another. No file at all says the empty policy.
 #![tactic(auto)]
 
 mod compiling;

@@ -76,6 +76,17 @@ fn faults(rt: HostRuntime) -> Result<(), Fail> {
             Err(Refusal::Policy(Fault::Names))
         )
     );
-    assert!(rt; matches!(compile(rt.alloc(), &[]), Err(Refusal::Policy(Fault::Form))));
+    Ok(())
+}
+
+#[test]
+fn the_empty_policy(rt: HostRuntime) -> Result<(), Fail> {
+    let compiled = compile(rt.alloc(), &[])?;
+    assert_eq!(rt; compiled.files.items().len(), 0);
+    let summary = summary_text(rt.alloc(), &compiled.summary)?;
+    assert_eq!(rt;
+        summary.bytes(),
+        b"networks 0\nzones 0\nrouters 0\npermits 0\nlocal 0\nlines 0\nroutes 0\n".as_slice()
+    );
     Ok(())
 }

@@ -60,6 +60,11 @@ fn folder(alloc: Global, text: &[u8], read_fails: &[u32]) -> Result<MemFolder, N
     MemFolder::new(alloc, files, 0, read_fails.to_vec(alloc)?, Vec::new(alloc))
 }
 
+// A folder without files.
+fn empty_folder(alloc: Global) -> Result<MemFolder, NoMemory> {
+    MemFolder::new(alloc, Vec::new(alloc), 0, Vec::new(alloc), Vec::new(alloc))
+}
+
 // An empty target, in which some calls of `put` fail and keep so many bytes.
 fn target(alloc: Global, put_fails: &[(u32, u64)]) -> Result<MemFolder, NoMemory> {
     let files = Vec::new(alloc);
@@ -143,6 +148,30 @@ local 1
 lines 2
 routes 0
 ";
+
+const EMPTY_SUMMARY: &str = "\
+networks 0
+zones 0
+routers 0
+permits 0
+local 0
+lines 0
+routes 0
+";
+
+#[test]
+fn an_empty_folder_is_the_empty_policy(rt: HostRuntime) -> Result<(), Fail> {
+    let alloc = rt.alloc();
+    let wanted = Wanted {
+        status: 0,
+        text: EMPTY_SUMMARY,
+        device: None,
+    };
+    let mut policy = empty_folder(alloc)?;
+    let mut code = target(alloc, &[])?;
+    compare(&rt, alloc, &mut policy, &mut code, &wanted)?;
+    Ok(())
+}
 
 #[test]
 fn policies_are_compiled_or_refused(rt: HostRuntime) -> Result<(), Fail> {
