@@ -62,7 +62,8 @@ fn folder(alloc: Global, text: &[u8], read_fails: &[u32]) -> Result<MemFolder, N
 
 // A folder without files.
 fn empty_folder(alloc: Global) -> Result<MemFolder, NoMemory> {
-    MemFolder::new(alloc, Vec::new(alloc), 0, Vec::new(alloc), Vec::new(alloc))
+    let files = Vec::new(alloc);
+    MemFolder::new(alloc, files, 0, Vec::new(alloc), Vec::new(alloc))
 }
 
 // An empty target, in which some calls of `put` fail and keep so many bytes.
