@@ -1,0 +1,5 @@
+mod Joining
+mod Labelled
+mod Routers
+mod Rows
+mod Ties
