@@ -1,3 +1,4 @@
+mod Filled
 mod Joining
 mod Labelled
 mod Routers

@@ -15,3 +15,8 @@ pub record AreLabels (p : Policy) (parents zones : List ℕ) (count : ℕ) : Typ
 -- One label more, and then the count.
 abbrev pub IsLabelled : Policy → List ℕ → List ℕ → ℕ → ℕ → Type 0
 IsLabelled p parents zones zone count = (new : List ℕ) → new ≡ zones ++ zone ∷ [] → AreLabels p parents new count
+
+-- The zones' numbers are those below the count.
+pub record AreNumbers (zones : List ℕ) (count : ℕ) : Type 0 where
+  pub below : (n : ℕ) → n < length zones → slice_index zones n < count
+  pub used : (z : ℕ) → z < count → (n : ℕ) × (n < length zones) × (slice_index zones n ≡ z)

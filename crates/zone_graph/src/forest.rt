@@ -145,7 +145,7 @@ fn singles(alloc: Global, topo: Topo<'_>) -> Result<Vec<u32>, NoMemory>
     Ok(parents)
 }
 
-fn is_managed_router(topo: Topo<'_>, r: RouterId) -> bool
+pub(crate) fn is_managed_router(topo: Topo<'_>, r: RouterId) -> bool
     requires { r.0 < length (policy_of topo).routers }
     ensures { result ≡ is_managed (policy_of topo.entry) r.0 }
 {

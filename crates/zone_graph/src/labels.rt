@@ -2,7 +2,7 @@ ghost use Rattle.std.specs.Prelude.{◌≡◌, ◌≢◌, ◌+◌, ◌<◌, ◌�
 ghost use Rattle.policy_model.specs.Zones.{AreZones};
 ghost use Rattle.topology.specs.View.{policy_of};
 ghost use Rattle.zone_graph.specs.Forest.{IsForest};
-ghost use Rattle.zone_graph.specs.Labels.{AreLabels, IsLabelled};
+ghost use Rattle.zone_graph.specs.Labels.{AreLabels, AreNumbers, IsLabelled};
 
 use crate::forest::{forest, net_count};
 use spoc_base::NoMemory;
@@ -30,7 +30,9 @@ fn label(topo: Topo<'_>, parents: &[u32], zones: &[u32], count: u32) -> (u32, u3
 
 /// The number of each network's zone, and the count of zones.
 pub(crate) fn labels(alloc: Global, topo: Topo<'_>) -> Result<(Vec<u32>, u32), NoMemory>
-    ensures { IfOk result (λ found. AreZones (policy_of topo.entry) found.0.items) }
+    ensures table { IfOk result (λ found. AreZones (policy_of topo.entry) found.0.items) }
+    ensures numbers { IfOk result (λ found. AreNumbers found.0.items found.1) }
+    ensures few { IfOk result (λ found. length found.0.items ≤ 65535) }
 {
     let parents = forest(alloc, topo)?;
     let mut zones = Vec::new(alloc);

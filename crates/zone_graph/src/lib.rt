@@ -2,5 +2,8 @@
 #![tactic(auto)]
 
 mod forest;
+pub mod graph;
 mod groups;
 mod labels;
+
+pub use graph::{ZoneGraph, zones};
