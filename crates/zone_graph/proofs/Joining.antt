@@ -1,5 +1,5 @@
 -- That networks are joined is reflexive, symmetric and transitive.
-use Rattle.std.proofs.Common.{◌≡◌, ℕ, ◌<◌, Bool, true, false, not, ◌&&◌, eqb, List, [], ◌∷◌, ◌++◌, length, refl, sym, subst, ap, ◌∙◌}
+use Rattle.std.proofs.Common.{◌≡◌, ℕ, Bool, true, false, not, ◌&&◌, eqb, List, [], ◌∷◌, ◌++◌, length, refl, sym, subst, ap, ◌∙◌}
 use Rattle.std.specs.Prelude.{◌==◌, nat_lt}
 use Rattle.std.specs.List.{list_all}
 use Rattle.std.proofs.lemmas.Bool.{and_parts, eqb-true, eq-eqb}
@@ -35,7 +35,7 @@ module _ (allowed : Crossing → Bool) (at : ℕ → ℕ) where
       record {
         path = c ∷ [];
         crossings = both (allowed c) true h refl;
-        ends = both (eqb (at c.enter) (at c.enter)) (eqb (at c.leave) (at c.leave)) (eq-eqb (at c.enter) (at c.enter) refl) (eq-eqb (at c.leave) (at c.leave) refl)
+        ends = both (eqb (at c.enter) (at c.enter)) (eqb (at c.leave) (at c.leave)) (eq-eqb (at c.enter) (at c.enter) refl) (eq-eqb (at c.leave) (at c.leave) refl);
       }
 
   back_from : ((c : Crossing) → allowed c ≡ true → allowed (record { enter = c.leave; leave = c.enter }) ≡ true) →

@@ -1,13 +1,12 @@
 -- One label more, and what all labels show.
-use Rattle.std.proofs.Common.{◌≡◌, ◌≢◌, ℕ, zero, suc, ◌+◌, ◌<◌, ◌≤◌, max, Bool, true, false, not, ◌&&◌, List, [], ◌∷◌, ◌++◌, length, refl, sym, subst, ap, ◌∙◌, ⊎_elim, arith, slice_index}
+use Rattle.std.proofs.Common.{◌≡◌, ◌≢◌, ℕ, ◌+◌, ◌<◌, ◌≤◌, Bool, true, false, not, ◌&&◌, List, [], ◌∷◌, ◌++◌, length, refl, sym, subst, ap, ◌∙◌, ⊎_elim, arith, slice_index}
 use Rattle.std.proofs.lemmas.List.{get_or_push, get_or_append_left, length-append}
 use Rattle.std.specs.Prelude.{◌==◌, nat_lt}
 use Rattle.std.proofs.lemmas.Bool.{cases_eq, and_parts, eqb-true, ltb-true}
 use Rattle.policy_model.specs.Policy.{Policy, net_at, router_at, is_managed}
-use Rattle.policy_model.specs.Paths.{Crossing, is_through_router, crosses_unmanaged}
+use Rattle.policy_model.specs.Paths.{is_through_router, crosses_unmanaged}
 use Rattle.policy_model.specs.Zones.{AreJoined, AreZones}
-use Rattle.policy_model.specs.Tags.{ifaces_of}
-use Rattle.zone_graph.specs.Forest.{IsForest, AreTied, AllTied, TiesBelow}
+use Rattle.zone_graph.specs.Forest.{IsForest, TiesBelow}
 use Rattle.zone_graph.specs.Labels.{AreLabels}
 use Rattle.zone_graph.proofs.Joining.{joined_itself, joined_on, joined_back, labels_alike}
 use Rattle.zone_graph.proofs.Routers.{all_alike}
@@ -57,7 +56,7 @@ module _ (p : Policy) (parents zones new : List ℕ) (count zone : ℕ) (labels 
             k hk;
         used = λ z h. ⊎_elim (λ e. (length zones, omega (arith, longer.count), last ∙ sym e)) (λ ne. old_used z (omega (arith, h, ne))) (cases_eq z count);
         numbered = λ k z h. by_place {C = λ x. z < slice_index new x → (m : ℕ) × (m < x) × (slice_index new m ≡ z)}
-            (λ hz. let w = labels.used z (subst (λ (x : ℕ). z < x) last hz) in (w.0, w.1, longer.same w.0 w.1 ∙ w.2)) (λ x hx hz. old_numbered x z hx hz) k h
+            (λ hz. let w = labels.used z (subst (λ (x : ℕ). z < x) last hz) in (w.0, w.1, longer.same w.0 w.1 ∙ w.2)) (λ x hx hz. old_numbered x z hx hz) k h;
       }
 
   -- one that points to a lower one is of its zone
@@ -80,8 +79,8 @@ module _ (p : Policy) (parents zones new : List ℕ) (count zone : ℕ) (labels 
         used = old_used;
         numbered = λ k z h. by_place {C = λ x. z < slice_index new x → (m : ℕ) × (m < x) × (slice_index new m ≡ z)}
             (λ hz. let w = labels.numbered parent z low (subst (λ (x : ℕ). z < x) last hz) in
-                (w.0, omega (arith, w.1, low), longer.same w.0 (omega (arith, w.1, low)) ∙ w.2))
-            (λ x hx hz. old_numbered x z hx hz) k h
+            (w.0, omega (arith, w.1, low), longer.same w.0 (omega (arith, w.1, low)) ∙ w.2))
+            (λ x hx hz. old_numbered x z hx hz) k h;
       }
 
 free_router : (b : Bool) → not b ≡ true → b ≡ false
@@ -94,21 +93,22 @@ pub labels_are_zones : (p : Policy) (parents zones : List ℕ) (count : ℕ) →
     length zones ≡ length p.nets → AreLabels p parents zones count → AreZones p zones
 labels_are_zones p parents zones count forest ties placed each labels =
     let follows : (k : ℕ) → k < length parents → slice_index zones (slice_index parents k) ≡ slice_index zones k =
-        λ k h. labels.follows k (omega (arith, h, forest.each, each)) in
+    λ k h. labels.follows k (omega (arith, h, forest.each, each)) in
     record {
       each = each;
-      joined = λ n m hn hm.
-          (λ e. labels.alike n m (omega (arith, hn, each)) (omega (arith, hm, each)) e,
-          λ r. labels_alike (crosses_unmanaged p) (net_at p) (slice_index zones) (λ c h.
-              let a = and_parts (is_through_router p c) (not (is_managed p (router_at p c.enter))) h in
-              let b = and_parts (nat_lt c.enter (length p.ifaces) && nat_lt c.leave (length p.ifaces)) (router_at p c.enter == router_at p c.leave) a.0 in
-              let d = and_parts (nat_lt c.enter (length p.ifaces)) (nat_lt c.leave (length p.ifaces)) b.0 in
-              let here = ltb-true c.enter (length p.ifaces) d.0 in
-              let there = ltb-true c.leave (length p.ifaces) d.1 in
-              all_alike p parents (router_at p c.enter) c.enter c.leave (ties (router_at p c.enter) (placed c.enter here).1 (free_router (is_managed p (router_at p c.enter)) a.1))
-              here there refl (sym (eqb-true (router_at p c.enter) (router_at p c.leave) b.1)) (slice_index zones) follows)
-              r.path n m r.crossings r.ends);
-      numbered = λ n z hn hz. labels.numbered n z (omega (arith, hn, each)) hz
+      joined = λ n m hn hm. (
+        λ e. labels.alike n m (omega (arith, hn, each)) (omega (arith, hm, each)) e,
+        λ r. labels_alike (crosses_unmanaged p) (net_at p) (slice_index zones) (λ c h.
+            let a = and_parts (is_through_router p c) (not (is_managed p (router_at p c.enter))) h in
+            let b = and_parts (nat_lt c.enter (length p.ifaces) && nat_lt c.leave (length p.ifaces)) (router_at p c.enter == router_at p c.leave) a.0 in
+            let d = and_parts (nat_lt c.enter (length p.ifaces)) (nat_lt c.leave (length p.ifaces)) b.0 in
+            let here = ltb-true c.enter (length p.ifaces) d.0 in
+            let there = ltb-true c.leave (length p.ifaces) d.1 in
+            all_alike p parents (router_at p c.enter) c.enter c.leave (ties (router_at p c.enter) (placed c.enter here).1 (free_router (is_managed p (router_at p c.enter)) a.1))
+            here there refl (sym (eqb-true (router_at p c.enter) (router_at p c.leave) b.1)) (slice_index zones) follows)
+            r.path n m r.crossings r.ends,
+      );
+      numbered = λ n z hn hz. labels.numbered n z (omega (arith, hn, each)) hz;
     }
 
 longer_by : (zones new : List ℕ) (zone : ℕ) → new ≡ zones ++ zone ∷ [] → IsLonger zones new zone
@@ -116,7 +116,7 @@ longer_by zones new zone e =
     record {
       count = ap length e ∙ length-append zones (zone ∷ []);
       same = λ k h. ap (λ (xs : List ℕ). slice_index xs k) e ∙ get_or_append_left zones (zone ∷ []) 0 k h;
-      last = ap (λ (xs : List ℕ). slice_index xs (length zones)) e ∙ get_or_push zones zone 0 (length zones) refl
+      last = ap (λ (xs : List ℕ). slice_index xs (length zones)) e ∙ get_or_push zones zone 0 (length zones) refl;
     }
 
 pub root_next : (p : Policy) (parents zones : List ℕ) (count : ℕ) → IsForest p parents → AreLabels p parents zones count → length zones < length parents →
@@ -138,5 +138,5 @@ no_labels p parents =
       follows = λ k h. absurd (omega (arith, h));
       alike = λ k m h. absurd (omega (arith, h));
       used = λ z h. absurd (omega (arith, h));
-      numbered = λ k z h. absurd (omega (arith, h))
+      numbered = λ k z h. absurd (omega (arith, h));
     }

@@ -1,11 +1,11 @@
 -- The interfaces of an unmanaged router stand at joined networks.
-use Rattle.std.proofs.Common.{◌≡◌, ℕ, zero, suc, ◌+◌, ◌<◌, Bool, true, false, not, ◌&&◌, List, length, map, refl, sym, subst, ap, ◌∙◌, arith, slice_index, slice_index_or, ◌-◌, ◌≤◌, ⊎_elim}
+use Rattle.std.proofs.Common.{◌≡◌, ℕ, zero, suc, ◌+◌, ◌<◌, false, not, ◌&&◌, List, length, map, refl, sym, subst, ap, ◌∙◌, arith, slice_index, slice_index_or, ◌-◌, ◌≤◌, ⊎_elim}
 use Rattle.std.specs.Prelude.{◌==◌, nat_lt}
-use Rattle.std.proofs.lemmas.Bool.{cases_eq, and_parts, eqb-true, eq-eqb, ltb-true, lt-ltb}
+use Rattle.std.proofs.lemmas.Bool.{cases_eq, eqb-true, eq-eqb, lt-ltb}
 use Rattle.std.proofs.Math.ListN.{get_or-map}
 use Rattle.spoc_base.specs.declared.ids.IfId.{IfId}
 use Rattle.policy_model.specs.Policy.{Policy, net_at, router_at, is_managed}
-use Rattle.policy_model.specs.Paths.{Crossing, is_through_router, crosses_unmanaged}
+use Rattle.policy_model.specs.Paths.{is_through_router}
 use Rattle.policy_model.specs.Zones.{AreJoined}
 use Rattle.policy_model.specs.Tags.{ifaces_of}
 use Rattle.zone_graph.specs.Forest.{AreTied, AllTied, KeepsTies, TiesBelow}
@@ -58,9 +58,9 @@ pub next_tied : (p : Policy) (old new ifs : List ℕ) (k a b : ℕ) → 1 ≤ k 
 next_tied p old new ifs k a b one keeps so_far ea eb tied j hj hl label follows =
     ⊎_elim
     (λ e.
-        let f : k - 1 ≡ j = omega (arith, e) in
-        ap (λ (x : ℕ). label (net_at p (slice_index ifs x))) (sym f) ∙ (ap label (sym ea) ∙ (tied label follows ∙ (ap label eb
-        ∙ ap (λ (x : ℕ). label (net_at p (slice_index ifs x))) (sym e)))))
+    let f : k - 1 ≡ j = omega (arith, e) in
+    ap (λ (x : ℕ). label (net_at p (slice_index ifs x))) (sym f) ∙ (ap label (sym ea) ∙ (tied label follows ∙ (ap label eb
+    ∙ ap (λ (x : ℕ). label (net_at p (slice_index ifs x))) (sym e)))))
     (λ ne. so_far j (omega (arith, hj, ne)) hl label (keeps label follows)) (cases_eq (j + 1) k)
 
 -- one router more

@@ -1,11 +1,11 @@
 -- What a new pointer keeps of a forest.
-use Rattle.std.proofs.Common.{◌≡◌, ◌≢◌, ℕ, ◌<◌, ◌≤◌, List, length, set, slice_index, slice_set, refl, sym, subst, ap, ◌∙◌, ⊎_elim, arith}
+use Rattle.std.proofs.Common.{◌≡◌, ◌≢◌, ℕ, ◌<◌, ◌≤◌, List, length, slice_index, slice_set, sym, subst, ◌∙◌, ⊎_elim, arith}
 use Rattle.std.proofs.lemmas.Bool.{cases_eq}
 use Rattle.std.proofs.lemmas.List.{length-set, get_or-set_same, get_or-set_other}
 use Rattle.policy_model.specs.Policy.{Policy}
 use Rattle.policy_model.specs.Zones.{AreJoined}
-use Rattle.zone_graph.specs.Forest.{IsForest, Follows, AreTied, KeepsTies, IsRoot}
-use Rattle.zone_graph.proofs.Joining.{joined_itself, joined_on, joined_back}
+use Rattle.zone_graph.specs.Forest.{IsForest, KeepsTies, IsRoot}
+use Rattle.zone_graph.proofs.Joining.{joined_on, joined_back}
 
 -- a network points to a lower one with which it is joined
 pub points_lower : (p : Policy) (parents : List ℕ) (k q : ℕ) → IsForest p parents → k < length parents → q ≤ k → AreJoined p k q → IsForest p (slice_set parents k q)
@@ -20,7 +20,7 @@ points_lower p parents k q forest there low joined =
       joined = λ n h. ⊎_elim
           (λ e. subst (λ (x : ℕ). AreJoined p x (slice_index (slice_set parents k q) x)) (sym e) (subst (λ (y : ℕ). AreJoined p k y) (sym (get_or-set_same parents k q 0 there)) joined))
           (λ ne. subst (λ (y : ℕ). AreJoined p n y) (sym (get_or-set_other parents k n q 0 ne)) (forest.joined n (subst (λ (x : ℕ). n < x) same h)))
-          (cases_eq n k)
+          (cases_eq n k);
     }
 
 -- where a network's parent points, with that it is joined
@@ -45,7 +45,7 @@ roots_stay parents k q no_root n root =
     let other : n ≢ k = λ e. no_root (subst (λ (x : ℕ). slice_index parents x ≡ x) e root.itself) in
     record {
       there = subst (λ (x : ℕ). n < x) (sym (length-set parents k q)) root.there;
-      itself = get_or-set_other parents k n q 0 other ∙ root.itself
+      itself = get_or-set_other parents k n q 0 other ∙ root.itself;
     }
 
 -- what two steps keep

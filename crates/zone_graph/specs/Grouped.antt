@@ -1,5 +1,5 @@
 -- Things grouped by zone.
-use Rattle.std.specs.Prelude.{◌≡◌, ◌≢◌, ℕ, ◌<◌, ◌==◌, ◌&&◌, Bool, Vec, List, [], ◌∷◌, ◌++◌, length, map, filter, slice_index, slice_index_or}
+use Rattle.std.specs.Prelude.{◌≡◌, ℕ, ◌<◌, ◌==◌, ◌&&◌, Vec, List, [], length, map, filter, slice_index, slice_index_or}
 use Rattle.policy_model.specs.Lists.{numbers_below}
 use Rattle.policy_model.specs.Policy.{Policy, all_ifaces, is_managed, router_at, net_at}
 use Rattle.policy_model.specs.Zones.{AreZones}

@@ -46,6 +46,14 @@ impl ZoneGraph {
         ZoneId(self.zones[n.0 as usize])
     }
 
+    /// The least network of a zone.
+    pub fn first_net(&self, z: ZoneId) -> NetId
+        requires { z.0 < length self.now.nets }
+        ensures { result.0 ≡ slice_index (slice_index_or self.now.nets z.0 []) 0 }
+    {
+        first_of(self.nets(z))
+    }
+
     /// The networks of a zone, by number.
     pub fn nets(&self, z: ZoneId) -> &[NetId]
         requires { z.0 < length self.now.nets }
@@ -63,7 +71,18 @@ impl ZoneGraph {
     }
 }
 
-/// The zones of a policy.
+// The first of some networks. A zone always has one.
+fn first_of(nets: &[NetId]) -> NetId
+    ensures { result.0 ≡ slice_index (map (λ n. n.0) nets.now) 0 }
+{
+    match nets.first() {
+        Some(n) => *n,
+        None => NetId(0),
+    }
+}
+
+/// The zones of a policy, by a forest of networks in which the routers that aren't managed tie
+/// their own, in little more than linear time.
 pub fn zones(alloc: Global, topo: Topo<'_>) -> Result<ZoneGraph, NoMemory>
     ensures { IfOk result (λ graph. IsGraphOf (policy_of topo.entry) graph) }
 {

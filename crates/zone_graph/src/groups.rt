@@ -75,7 +75,8 @@ fn add_door(topo: Topo<'_>, rows: &mut [Vec<IfId>], zones: &[u32], i: u32) -> Re
         return Ok(());
     }
     let n = net_of(topo, i);
-    add(rows, zones[n as usize], IfId(i))
+    add(rows, zones[n as usize], IfId(i))?;
+    Ok(())
 }
 
 // Puts each interface of a managed router into its zone's row.
@@ -93,7 +94,11 @@ fn fill_doors(topo: Topo<'_>, rows: &mut [Vec<IfId>], zones: &[u32]) -> Result<(
 }
 
 /// The networks of each zone, by number.
-pub(crate) fn group_nets(alloc: Global, zones: &[u32], count: u32) -> Result<Vec<Vec<NetId>>, NoMemory>
+pub(crate) fn group_nets(
+    alloc: Global,
+    zones: &[u32],
+    count: u32,
+) -> Result<Vec<Vec<NetId>>, NoMemory>
     requires zones { AreRowsOf zones.now count }
     requires few { length zones.now ≤ 65535 }
     ensures groups { IfOk result (λ rows. HasGroups (λ n. n.0) (row_items rows.items) (nets_below zones.now (length zones.now))) }
@@ -105,7 +110,12 @@ pub(crate) fn group_nets(alloc: Global, zones: &[u32], count: u32) -> Result<Vec
 }
 
 /// The interfaces of managed routers in each zone, by number.
-pub(crate) fn group_doors(alloc: Global, topo: Topo<'_>, zones: &[u32], count: u32) -> Result<Vec<Vec<IfId>>, NoMemory>
+pub(crate) fn group_doors(
+    alloc: Global,
+    topo: Topo<'_>,
+    zones: &[u32],
+    count: u32,
+) -> Result<Vec<Vec<IfId>>, NoMemory>
     requires each { length zones.now ≡ length (policy_of topo).nets }
     requires zones { AreRowsOf zones.now count }
     ensures groups { IfOk result (λ rows. HasGroups (λ i. i.0) (row_items rows.items) (doors_below (policy_of topo.entry) zones.now (length (policy_of topo.entry).ifaces))) }

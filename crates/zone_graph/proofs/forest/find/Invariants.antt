@@ -1,4 +1,4 @@
-use Rattle.std.proofs.Common.{◌≡◌, ◌<◌, ℕ, length}
+use Rattle.std.proofs.Common.{◌<◌, ℕ, length}
 use Rattle.policy_model.specs.Zones.{AreJoined}
 use Rattle.topology.specs.View.{policy_of}
 use Rattle.zone_graph.specs.Forest.{IsForest, AreTied, KeepsTies, IsRoot}

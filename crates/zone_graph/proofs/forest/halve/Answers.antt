@@ -1,4 +1,3 @@
-use Rattle.std.proofs.Common.{◌≡◌}
 use Rattle.topology.specs.View.{policy_of}
 use Rattle.zone_graph.proofs.Ties.{points_lower, joined_twice, low_twice, roots_stay}
 use Rattle.zone_graph.proofs.forest.halve.Goals as goal

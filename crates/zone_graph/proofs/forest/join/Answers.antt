@@ -1,4 +1,4 @@
-use Rattle.std.proofs.Common.{◌≡◌, ◌∙◌, subst, sym, ℕ, ◌<◌, length, arith}
+use Rattle.std.proofs.Common.{◌∙◌, sym}
 use Rattle.topology.specs.View.{policy_of}
 use Rattle.zone_graph.proofs.Joining.{joined_back}
 use Rattle.zone_graph.proofs.Ties.{joined_between}

@@ -1,4 +1,3 @@
-use Rattle.std.proofs.Common.{◌≡◌, ℕ, ◌<◌, length}
 use Rattle.topology.specs.View.{policy_of}
 use Rattle.zone_graph.specs.Forest.{IsForest, TiesBelow}
 use Rattle.zone_graph.proofs.forest.join_all.Given as goal

@@ -1,4 +1,4 @@
-use Rattle.std.proofs.Common.{◌≡◌, ◌<◌, ◌-◌, ◌+◌, ℕ, length, subst, sym, arith, slice_index}
+use Rattle.std.proofs.Common.{◌-◌, ℕ, subst, sym, arith, slice_index}
 use Rattle.policy_model.specs.Policy.{net_at}
 use Rattle.policy_model.specs.Zones.{AreJoined}
 use Rattle.policy_model.specs.Tags.{ifaces_of}
@@ -17,12 +17,13 @@ join-requires-clause-joined c =
 pub loop-k-preserved : goal.loop-k-preserved
 loop-k-preserved c =
     let p = policy_of c.args.topo in
-    let old = c.loop-k.invariant in
-    (c.join.ensures.forest,
-    λ label h. old.1 label (c.join.ensures.ties label h),
-    omega (arith, old.2),
-    next_tied p c.loop-k.parents c.join.new.parents (ifaces_of p c.args.r.0) c.loop-k.k c.net_in-a.result c.net_in-b.result old.2 c.join.ensures.ties old.3
-    c.net_in-a.ensures.value c.net_in-b.ensures.value c.join.ensures.tied)
+    let old = c.loop-k.invariant in (
+      c.join.ensures.forest,
+      λ label h. old.1 label (c.join.ensures.ties label h),
+      omega (arith, old.2),
+      next_tied p c.loop-k.parents c.join.new.parents (ifaces_of p c.args.r.0) c.loop-k.k c.net_in-a.result c.net_in-b.result old.2 c.join.ensures.ties old.3
+          c.net_in-a.ensures.value c.net_in-b.ensures.value c.join.ensures.tied,
+    )
 
 pub returns-clause-tied : goal.returns-clause-tied
 returns-clause-tied c k h = c.loop-k.invariant.3 k (omega (arith, h, c.loop-k-test.false, c.row_length-count.ensures)) h

@@ -1,4 +1,4 @@
-use Rattle.std.proofs.Common.{◌≡◌, ℕ, ◌+◌, ◌<◌, ◌≤◌, length, slice_index}
+use Rattle.std.proofs.Common.{ℕ, ◌+◌, ◌<◌, ◌≤◌, length, slice_index}
 use Rattle.policy_model.specs.Policy.{net_at}
 use Rattle.policy_model.specs.Tags.{ifaces_of}
 use Rattle.topology.specs.View.{policy_of}

@@ -1,4 +1,3 @@
-use Rattle.std.proofs.Common.{◌≡◌}
 use Rattle.topology.specs.View.{policy_of}
 use Rattle.zone_graph.proofs.Ties.{points_lower}
 use Rattle.zone_graph.proofs.Joining.{joined_back}

@@ -1,4 +1,4 @@
-use Rattle.std.proofs.Common.{◌≡◌, ◌<◌, ℕ, length, subst, sym}
+use Rattle.std.proofs.Common.{◌<◌, ℕ, length, subst, sym}
 use Rattle.policy_model.specs.Tags.{ifaces_of}
 use Rattle.topology.specs.View.{policy_of}
 use Rattle.zone_graph.proofs.Routers.{in_row, at_row}

@@ -1,4 +1,3 @@
-use Rattle.std.proofs.Common.{◌≡◌}
 use Rattle.zone_graph.proofs.Filled.{row_put}
 use Rattle.zone_graph.proofs.groups.add.Goals as goal
 

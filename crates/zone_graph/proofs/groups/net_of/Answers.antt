@@ -1,4 +1,4 @@
-use Rattle.std.proofs.Common.{◌≡◌, ◌<◌, ℕ, length, subst}
+use Rattle.std.proofs.Common.{◌<◌, length, subst}
 use Rattle.topology.specs.View.{policy_of}
 use Rattle.zone_graph.proofs.groups.net_of.Goals as goal
 

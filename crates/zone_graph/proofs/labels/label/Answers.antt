@@ -1,4 +1,3 @@
-use Rattle.std.proofs.Common.{◌≡◌}
 use Rattle.topology.specs.View.{policy_of}
 use Rattle.zone_graph.proofs.Labelled.{root_next, other_next}
 use Rattle.zone_graph.proofs.labels.label.Goals as goal

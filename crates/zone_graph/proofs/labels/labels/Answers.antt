@@ -1,4 +1,4 @@
-use Rattle.std.proofs.Common.{◌≡◌, ◌<◌, ℕ, length, arith}
+use Rattle.std.proofs.Common.{arith}
 use Rattle.topology.specs.View.{policy_of}
 use Rattle.zone_graph.proofs.Labelled.{labels_are_zones}
 use Rattle.zone_graph.proofs.labels.labels.Goals as goal

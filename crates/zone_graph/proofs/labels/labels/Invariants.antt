@@ -1,6 +1,5 @@
-use Rattle.std.proofs.Common.{◌≡◌, ◌≤◌, ℕ, length}
+use Rattle.std.proofs.Common.{◌≡◌, ◌≤◌, length}
 use Rattle.topology.specs.View.{policy_of}
-use Rattle.zone_graph.specs.Forest.{IsForest, TiesBelow}
 use Rattle.zone_graph.specs.Labels.{AreLabels}
 use Rattle.zone_graph.proofs.labels.labels.Given as goal
 
