@@ -1,0 +1,6 @@
+mod Filled
+mod Joining
+mod Labelled
+mod Routers
+mod Rows
+mod Ties
