@@ -1,0 +1,5 @@
+//! From tokens to declarations.
+#![tactic(auto)]
+
+mod left_out;
+
