@@ -1,5 +1,9 @@
 //! From tokens to declarations.
 #![tactic(auto)]
 
-mod left_out;
+mod nesting;
+mod signs;
+mod words;
 
+pub use nesting::too_deep;
+pub use words::left_out;

@@ -5,7 +5,8 @@ ghost use Rattle.spoc_lexer.specs.Seen.{seen};
 ghost use Rattle.spoc_parser.specs.Places.{toks_of, seen_there, IsFirst, NonePasses, is_word_kind, is_the_sign, token_before, second_before};
 ghost use Rattle.spoc_parser.specs.LeftOut.{is_among, begins_with, beginnings, part_words, value_words, valued_words, bracket_words, list_words, stands_behind, begins_part, is_word_among, begins_value, has_beginning, is_part_word, is_value_word, is_bracket_word, is_list_word, is_left_out, is_left_out_at};
 
-use spoc_lexer::{Token, TokenKind};
+use crate::signs::{is_the_sign, is_word};
+use spoc_lexer::Token;
 
 // A word that begins with one of these is left out wherever it stands.
 const BEGINNINGS: [&str; 6] = [
@@ -86,18 +87,6 @@ fn is_among(words: &[&str], text: &[u8]) -> bool
     ensures { result ≡ list_any (λ word. bytes_eq text.now word.now) words.now }
 {
     words.iter().any(|word| text == word.as_bytes())
-}
-
-fn is_word(token: &Token<'_>) -> bool
-    ensures { result ≡ is_word_kind token.now.kind }
-{
-    matches!(token.kind, TokenKind::Word)
-}
-
-fn is_the_sign(token: &Token<'_>, byte: u8) -> bool
-    ensures { result ≡ is_the_sign byte (seen token.now) }
-{
-    matches!(token.kind, TokenKind::Sign) && token.text == [byte].as_slice()
 }
 
 fn stands_behind(before: Option<&Token<'_>>, byte: u8) -> bool
