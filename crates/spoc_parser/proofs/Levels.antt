@@ -1,12 +1,11 @@
 -- The level behind one token more.
-use Rattle.std.proofs.Common.{◌≡◌, ◌<◌, ◌≤◌, ◌+◌, ◌-◌, ℕ, Bool, true, false, ◌&&◌, nat_le, cond, List, length, map, get_or, take, slice_get, sym, ap, subst, ◌∙◌, arith}
-use Rattle.std.specs.List.{fold}
+use Rattle.std.proofs.Common.{◌≡◌, ◌<◌, ◌≤◌, ◌+◌, ◌-◌, ℕ, Bool, true, false, ◌&&◌, nat_le, cond, List, length, get_or, sym, ap, subst, ◌∙◌, arith}
 use Rattle.std.proofs.lemmas.List.{get_or-map, length-map}
 use Rattle.std.proofs.lemmas.List.Sums.{fold_more}
 use Rattle.spoc_lexer.specs.Seen.{seen}
 use Rattle.spoc_lexer.specs.Tokens.{Tok}
 use Rattle.spoc_lexer.specs.declared.token.Token.{Token}
-use Rattle.spoc_parser.specs.Places.{toks_of, passes_there}
+use Rattle.spoc_parser.specs.Places.{toks_of}
 use Rattle.spoc_parser.specs.Nesting.{most_levels, opens, closes, level_behind, level_at, opens_beyond, is_too_deep_at}
 use Rattle.spoc_parser.proofs.Standing.{passes_here}
 

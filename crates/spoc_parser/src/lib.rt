@@ -3,6 +3,8 @@
 
 mod nesting;
 mod signs;
+#[cfg(test)]
+mod tests;
 mod words;
 
 pub use nesting::too_deep;

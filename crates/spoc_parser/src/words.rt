@@ -49,11 +49,7 @@ const PART_WORDS: [&str; 26] = [
 ];
 
 // The parts whose value may be left out.
-const VALUED_WORDS: [&str; 3] = [
-    "managed",
-    "routing",
-    "user",
-];
+const VALUED_WORDS: [&str; 3] = ["managed", "routing", "user"];
 
 // Left out behind the `=` of such a part.
 const VALUE_WORDS: [&str; 7] = [
@@ -67,10 +63,7 @@ const VALUE_WORDS: [&str; 7] = [
 ];
 
 // Left out behind `[`.
-const BRACKET_WORDS: [&str; 2] = [
-    "auto",
-    "all",
-];
+const BRACKET_WORDS: [&str; 2] = ["auto", "all"];
 
 // Left out behind `,`.
 const LIST_WORDS: [&str; 7] = [
@@ -108,7 +101,9 @@ fn begins_value(second: Option<&Token<'_>>, before: Option<&Token<'_>>) -> bool
     ensures { result ≡ begins_value (seen_there second.entry) (seen_there before.entry) }
 {
     match second {
-        Some(token) => stands_behind(before, b'=') && is_word(token) && is_among(&VALUED_WORDS, token.text),
+        Some(token) => stands_behind(before, b'=')
+            && is_word(token)
+            && is_among(&VALUED_WORDS, token.text),
         None => false,
     }
 }

@@ -8,10 +8,10 @@ use Rattle.spoc_parser.proofs.nesting.too_deep.Goals as goal
 pub loop-place-preserved : goal.loop-place-preserved
 loop-place-preserved c =
     let tokens = c.args.tokens.now in
-    let low = sym c.opens_beyond.ensures ∙ c.if-opens_beyond.false in
-    ( c.level_behind-level.ensures ∙ one_more tokens c.loop-place.place _ c.loop-place.level c.loop-place-test.true c.loop-place.invariant.0
-    , stays_low tokens c.loop-place.place _ c.level_behind-level.result c.loop-place.level c.level_behind-level.ensures c.loop-place.invariant.1 low
-    , below_more _ _ c.loop-place.invariant.2 (fails_here tokens c.loop-place.place _ c.loop-place.level c.loop-place-test.true c.loop-place.invariant.0 low)
+    let low = sym c.opens_beyond.ensures ∙ c.if-opens_beyond.false in (
+      c.level_behind-level.ensures ∙ one_more tokens c.loop-place.place _ c.loop-place.level c.loop-place-test.true c.loop-place.invariant.0,
+      stays_low tokens c.loop-place.place _ c.level_behind-level.result c.loop-place.level c.level_behind-level.ensures c.loop-place.invariant.1 low,
+      below_more _ _ c.loop-place.invariant.2 (fails_here tokens c.loop-place.place _ c.loop-place.level c.loop-place-test.true c.loop-place.invariant.0 low),
     )
 
 pub returns-clause-none : goal.returns-clause-none

@@ -1,4 +1,3 @@
-use Rattle.std.proofs.Common.{◌≡◌}
 use Rattle.spoc_parser.proofs.Standing.{seen_before}
 use Rattle.spoc_parser.proofs.words.token_before.Goals as goal
 
