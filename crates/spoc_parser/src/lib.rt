@@ -2,10 +2,12 @@
 #![tactic(auto)]
 
 mod nesting;
+mod reach;
 mod signs;
 #[cfg(test)]
 mod tests;
 mod words;
 
 pub use nesting::too_deep;
+pub use reach::{tokens_are_no_more_than_bytes, tokens_end_within_the_text};
 pub use words::left_out;
