@@ -1,5 +1,5 @@
 -- How far tokens reach, and how many they are.
-use Rattle.std.proofs.Common.{◌≡◌, ◌≤◌, ◌<◌, ◌+◌, ◌^◌, ℕ, Bool, true, false, ◌&&◌, ◌||◌, ◌==◌, List, [], ◌∷◌, ◌++◌, Ok, length, map, cond, refl, sym, ap, subst, ◌∙◌, arith, true≢false}
+use Rattle.std.proofs.Common.{◌≡◌, ◌≤◌, ◌<◌, ◌+◌, ◌^◌, ℕ, Bool, true, false, ◌&&◌, ◌||◌, ◌==◌, List, [], ◌∷◌, ◌++◌, Ok, length, cond, refl, ap, ◌∙◌, arith, true≢false}
 use Rattle.std.specs.Prelude.{◌≢◌, codes}
 use Rattle.std.specs.List.{All}
 use Rattle.std.specs.Str.{bytes_eq}
@@ -7,9 +7,12 @@ use Rattle.std.proofs.lemmas.List.{length-append, length-map}
 use Rattle.std.proofs.lemmas.List.Elements.{All-weaker}
 use Rattle.std.proofs.lemmas.Slice.Eq.{bytes_eq-Decides}
 use Rattle.spoc_lexer.specs.Tokens.{Tok, tokens_of, IsPart}
-use Rattle.spoc_lexer.specs.Grammar.{Piece, Blank, Comment, Word, Sign, Text, bytes_of, joined, tokens_from}
+use Rattle.spoc_lexer.specs.Grammar.{Piece, Blank, Comment, Word, Sign, Text, joined, tokens_from}
+use Rattle.spoc_lexer.specs.Seen.{seen}
+use Rattle.spoc_lexer.specs.declared.token.Token.{Token}
+use Rattle.spoc_parser.specs.Places.{toks_of}
 use Rattle.spoc_lexer.proofs.Slices.{tokens_are_parts}
-use Rattle.spoc_lexer.proofs.Standing.{named_behind, open_behind, Follow, follow}
+use Rattle.spoc_lexer.proofs.Standing.{Follow, follow}
 use Rattle.spoc_lexer.proofs.Dividing.{has_tokens}
 
 -- a part ends within the text
@@ -77,4 +80,16 @@ few_tokens text toks e =
     let few = few_from found.0 false false 0 (follow found.0 [] found.1.0) in
     let count : length (tokens_from 0 found.0) ≡ length toks = ap length found.2 in
     let size : length (joined found.0) ≡ length text = ap length found.1.1 in
+    omega arith
+
+pub ends_fit : (text : List ℕ) (toks : List Tok) → length text ≤ 4194304 → tokens_of text ≡ Ok toks → All (λ tok. tok.start + length tok.text < 2 ^ 32) toks
+ends_fit text toks small e = All-weaker (λ tok. tok.start + length tok.text ≤ length text) (λ tok. tok.start + length tok.text < 2 ^ 32) below toks (ends_within text toks e)
+  where
+    below : (tok : Tok) → tok.start + length tok.text ≤ length text → tok.start + length tok.text < 2 ^ 32
+    below tok h = omega arith
+
+pub numbers_fit : (text : List ℕ) (tokens : List Token) → length text ≤ 4194304 → tokens_of text ≡ Ok (toks_of tokens) → length tokens < 2 ^ 32
+numbers_fit text tokens small e =
+    let few = few_tokens text (toks_of tokens) e in
+    let count : length (toks_of tokens) ≡ length tokens = length-map tokens seen in
     omega arith

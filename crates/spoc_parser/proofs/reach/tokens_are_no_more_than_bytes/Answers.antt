@@ -1,5 +1,8 @@
-use Rattle.spoc_parser.proofs.Bounds.{few_tokens}
+use Rattle.spoc_parser.proofs.Bounds.{few_tokens, numbers_fit}
 use Rattle.spoc_parser.proofs.reach.tokens_are_no_more_than_bytes.Goals as goal
 
-pub returns : goal.returns
-returns c = few_tokens
+pub returns-clause-few : goal.returns-clause-few
+returns-clause-few c = few_tokens
+
+pub returns-clause-fit : goal.returns-clause-fit
+returns-clause-fit c = numbers_fit

@@ -1,5 +1,8 @@
-use Rattle.spoc_parser.proofs.Bounds.{ends_within}
+use Rattle.spoc_parser.proofs.Bounds.{ends_within, ends_fit}
 use Rattle.spoc_parser.proofs.reach.tokens_end_within_the_text.Goals as goal
 
-pub returns : goal.returns
-returns c = ends_within
+pub returns-clause-within : goal.returns-clause-within
+returns-clause-within c = ends_within
+
+pub returns-clause-fit : goal.returns-clause-fit
+returns-clause-fit c = ends_fit
