@@ -6,6 +6,7 @@
 #![tactic(auto)]
 
 pub mod decl;
+mod laws;
 pub mod set;
 pub mod word;
 
@@ -13,5 +14,6 @@ pub use decl::{
     AnyPart, AreaPart, Decl, File, HostPart, Idle, IfPart, NatPart, NetPart, Prt, RoutPart,
     RuleTree, Simple,
 };
+pub use laws::sets_are_seen_by_their_parts;
 pub use set::{FurtherTree, InterTree, SetTree, TermTree};
 pub use word::{PortName, Word};
