@@ -4,4 +4,6 @@ pub mod Uses
 pub mod Nesting
 pub mod Lookup
 pub mod Shapes
+pub mod Limits
 pub mod Said
+pub mod Faults

@@ -1,9 +1,9 @@
 -- What is declared under a name.
-use Rattle.std.specs.Prelude.{ℕ, ◌-◌, ◌%◌, Bool, true, false, ◌&&◌, ◌||◌, List, [], ◌∷◌, ◌++◌, length, map, flat_map, filter, slice_get, Option, Some, None, option_map, option_and_then, if◌then◌else◌, codes, nat_lt, ◌==◌}
+use Rattle.std.specs.Prelude.{ℕ, ◌-◌, ◌%◌, Bool, true, false, ◌&&◌, List, [], ◌∷◌, flat_map, filter, Option, Some, None, option_and_then, if◌then◌else◌, nat_lt}
 use Rattle.std.specs.Str.{bytes_eq}
 use Rattle.std.specs.List.{list_any}
 use Rattle.spoc_base.specs.Address.{Cidr, size_of}
-use Rattle.spoc_ast.specs.Written.{Lexeme, PortText, HostPartText, HostIp, HostRange, HostIdle, NatPartText, NatIp, NetPartText, NetIp, NetHost, NetNat, NetIdle, IfPartText, IfIp, IfHardware, IfBindNat, IfIdle, RoutPartText, RoutManaged, RoutModel, RoutRouting, RoutIface, RoutIdle, DeclText, NetworkDecl, RouterDecl, GroupDecl, AreaDecl, AggregateDecl, ProtocolDecl, ProtocolGroupDecl, RestrictionDecl, ServiceDecl}
+use Rattle.spoc_ast.specs.Written.{Lexeme, PortText, NatPartText, NatIp, NetPartText, NetIp, NetHost, NetNat, NetIdle, IfPartText, IfIp, IfHardware, IfBindNat, IfIdle, RoutPartText, RoutManaged, RoutModel, RoutRouting, RoutIface, RoutIdle, DeclText, NetworkDecl, RouterDecl, GroupDecl, AreaDecl, AggregateDecl, ProtocolDecl, ProtocolGroupDecl, RestrictionDecl, ServiceDecl}
 use Rattle.policy_decls.specs.Numbers.{prefix_of}
 
 -- what a test gives for the first item for which it gives something

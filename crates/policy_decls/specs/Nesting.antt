@@ -1,8 +1,8 @@
 -- Groups that name groups, and protocol groups that name protocol groups.
-use Rattle.std.specs.Prelude.{ℕ, zero, suc, Bool, true, false, ◌&&◌, ◌||◌, List, [], ◌∷◌, length, flat_map, filter}
+use Rattle.std.specs.Prelude.{ℕ, zero, suc, Bool, true, false, ◌||◌, List, length, flat_map, filter}
 use Rattle.std.specs.List.{list_any}
 use Rattle.spoc_ast.specs.Written.{DeclText}
-use Rattle.policy_decls.specs.Names.{NameKind, GroupName, ProtocolGroupName, same_kind, Mention, same_name, names_in, declared_names}
+use Rattle.policy_decls.specs.Names.{GroupName, ProtocolGroupName, same_kind, Mention, same_name, names_in, declared_names}
 use Rattle.policy_decls.specs.Uses.{uses_in}
 
 abbrev pub is_nesting : Mention → Bool

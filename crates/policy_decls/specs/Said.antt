@@ -1,5 +1,5 @@
 -- The policy that declarations say.
-use Rattle.std.specs.Prelude.{ℕ, zero, suc, Bool, true, false, not, ◌&&◌, List, [], ◌∷◌, map, flat_map, filter, position, slice_get, Option, Some, None, option_map, option_and_then, if◌then◌else◌, codes}
+use Rattle.std.specs.Prelude.{ℕ, zero, suc, Bool, List, [], ◌∷◌, map, flat_map, filter, position, slice_get, Option, Some, None, option_map, option_and_then, if◌then◌else◌, codes}
 use Rattle.std.specs.Str.{bytes_eq}
 use Rattle.std.specs.List.{list_any}
 use Rattle.spoc_base.specs.Address.{Cidr, Interval, any_address}
@@ -9,9 +9,9 @@ use Rattle.spoc_base.specs.declared.dialect.Dialect.TheVariants.{Ios, Asa}
 use Rattle.policy_model.specs.Lists.{is_nothing, once_each}
 use Rattle.policy_model.specs.Policy as plain
 use Rattle.policy_model.specs.Policy.{Policy, ObjectExpr, NoObjects, OneNet, OneHost, OneIface, OfGroup, OfAggregate, OfArea, OfUser, NetsOf, HostsOf, ZonesOf, Joined, Common, Without}
-use Rattle.spoc_ast.specs.Written.{Lexeme, PortText, SetText, NoParts, NetworkNamed, HostNamed, PortNamed, GroupNamed, AggregateNamed, AreaNamed, UserNamed, NetworksIn, HostsIn, ZonesIn, Joining, Keeping, Leaving, HostPartText, NatPartText, NetPartText, NetIp, NetHost, NetNat, NetIdle, RoutPartText, AreaPartText, AnyPartText, SimpleText, PrtText, PrtSimple, PrtProtocol, PrtGroup, RuleText, DeclText, NetworkDecl, RouterDecl, GroupDecl, AreaDecl, AggregateDecl, ProtocolDecl, ProtocolGroupDecl, RestrictionDecl, ServiceDecl}
+use Rattle.spoc_ast.specs.Written.{Lexeme, PortText, SetText, NoParts, NetworkNamed, HostNamed, PortNamed, GroupNamed, AggregateNamed, AreaNamed, UserNamed, NetworksIn, HostsIn, ZonesIn, Joining, Keeping, Leaving, NetPartText, NetIp, NetHost, NetNat, NetIdle, RoutPartText, PrtText, PrtSimple, PrtProtocol, PrtGroup, RuleText, DeclText, NetworkDecl, RouterDecl, GroupDecl, AreaDecl, AggregateDecl, ProtocolDecl, ProtocolGroupDecl, RestrictionDecl, ServiceDecl}
 use Rattle.policy_decls.specs.Numbers.{address_of, prefix_of, box_in}
-use Rattle.policy_decls.specs.Names.{NameKind, NetworkName, HostName, TagName, RouterName, IfaceName, GroupName, AreaName, AggregateName, ProtocolName, ProtocolGroupName, same_kind, Mention, mention, mention_port, declared_names}
+use Rattle.policy_decls.specs.Names.{NameKind, NetworkName, HostName, TagName, RouterName, IfaceName, GroupName, AreaName, AggregateName, same_kind, Mention, mention, mention_port, declared_names}
 use Rattle.policy_decls.specs.Uses.{names_it}
 use Rattle.policy_decls.specs.Lookup.{first_given, or_nothing, own_prefix, ips_in_nat_part, is_managed_router, models_in, routings_in, IfaceText, declared_ifaces, iface_addresses, iface_hardware, iface_binds}
 use Rattle.policy_decls.specs.Shapes.{spans_in, interval_in, anchors_in, borders_in, links_in, ips_in_any_part}
@@ -162,29 +162,54 @@ abbrev pub adds_of : List DeclText → DeclText → Adds
 adds_of decls (NetworkDecl name desc parts) = record {
   nets = record { name = name.text; own = cidr_or_any (own_prefix parts); nats = flat_map (nats_said decls) parts } ∷ [];
   hosts = flat_map (hosts_said (number_of_name decls NetworkName name)) parts;
-  routers = []; restrictions = []; groups = []; areas = []; aggregates = []; services = [];
+  routers = [];
+  restrictions = [];
+  groups = [];
+  areas = [];
+  aggregates = [];
+  services = [];
 }
 adds_of decls (RouterDecl name desc parts) = record {
-  nets = []; hosts = [];
+  nets = [];
+  hosts = [];
   routers = record { name = name.text; device = device_in parts } ∷ [];
-  restrictions = []; groups = []; areas = []; aggregates = []; services = [];
+  restrictions = [];
+  groups = [];
+  areas = [];
+  aggregates = [];
+  services = [];
 }
 adds_of decls (GroupDecl name desc objects) = record {
-  nets = []; hosts = []; routers = []; restrictions = [];
+  nets = [];
+  hosts = [];
+  routers = [];
+  restrictions = [];
   groups = record { name = name.text; objects = expr_or_none decls objects } ∷ [];
-  areas = []; aggregates = []; services = [];
+  areas = [];
+  aggregates = [];
+  services = [];
 }
 adds_of decls (AreaDecl name desc parts) = record {
-  nets = []; hosts = []; routers = []; restrictions = []; groups = [];
+  nets = [];
+  hosts = [];
+  routers = [];
+  restrictions = [];
+  groups = [];
   areas = record {
     name = name.text;
     anchor = option_map (number_of_name decls NetworkName) (slice_get (flat_map anchors_in parts) 0);
     borders = flat_map (map (number_of_port decls)) (flat_map borders_in parts);
   } ∷ [];
-  aggregates = []; services = [];
+  aggregates = [];
+  services = [];
 }
 adds_of decls (AggregateDecl name desc parts) = record {
-  nets = []; hosts = []; routers = []; restrictions = []; groups = []; areas = [];
+  nets = [];
+  hosts = [];
+  routers = [];
+  restrictions = [];
+  groups = [];
+  areas = [];
   aggregates = record {
     name = name.text;
     link = or_zero (option_map (number_of_name decls NetworkName) (slice_get (flat_map links_in parts) 0));
@@ -195,12 +220,23 @@ adds_of decls (AggregateDecl name desc parts) = record {
 adds_of decls (ProtocolDecl name protocol notes) = no_adds
 adds_of decls (ProtocolGroupDecl name prts) = no_adds
 adds_of decls (RestrictionDecl name desc ports) = record {
-  nets = []; hosts = []; routers = [];
+  nets = [];
+  hosts = [];
+  routers = [];
   restrictions = record { name = name.text; members = map (number_of_port decls) ports } ∷ [];
-  groups = []; areas = []; aggregates = []; services = [];
+  groups = [];
+  areas = [];
+  aggregates = [];
+  services = [];
 }
 adds_of decls (ServiceDecl name desc idle user rules) = record {
-  nets = []; hosts = []; routers = []; restrictions = []; groups = []; areas = []; aggregates = [];
+  nets = [];
+  hosts = [];
+  routers = [];
+  restrictions = [];
+  groups = [];
+  areas = [];
+  aggregates = [];
   services = record { name = name.text; user = expr_in decls user; rules = map (rule_in decls) rules } ∷ [];
 }
 

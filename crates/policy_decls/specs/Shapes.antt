@@ -1,13 +1,12 @@
 -- What must not stand in a declaration, by number.
-use Rattle.std.specs.Prelude.{ℕ, suc, Bool, true, false, not, ◌&&◌, ◌||◌, ◌==◌, nat_lt, nat_le, List, [], ◌∷◌, ◌++◌, length, map, flat_map, filter, take, slice_get, Option, Some, None, is_some, option_map, option_and_then, if◌then◌else◌, codes}
+use Rattle.std.specs.Prelude.{ℕ, Bool, true, false, not, ◌&&◌, ◌||◌, ◌==◌, nat_lt, List, [], ◌∷◌, ◌++◌, length, flat_map, filter, take, slice_get, Option, Some, None, option_and_then, if◌then◌else◌, codes}
 use Rattle.std.specs.Str.{bytes_eq}
-use Rattle.std.specs.List.{list_any, list_all}
+use Rattle.std.specs.List.{list_any}
 use Rattle.spoc_base.specs.Address.{Cidr, Interval, addresses, interval_covers, prefix_holds}
-use Rattle.spoc_base.specs.declared.place.Named.{Named}
-use Rattle.policy_model.specs.Lists.{is_nothing, numbers_below}
-use Rattle.spoc_ast.specs.Written.{Lexeme, PortText, SetText, NoParts, NetworkNamed, HostNamed, PortNamed, GroupNamed, AggregateNamed, AreaNamed, UserNamed, NetworksIn, HostsIn, ZonesIn, Joining, Keeping, Leaving, HostPartText, HostIp, HostRange, HostIdle, NatPartText, NatIp, NetPartText, NetIp, NetHost, NetNat, NetIdle, RoutPartText, AreaPartText, AreaAnchor, AreaBorder, AreaIdle, AnyPartText, AnyLink, AnyIp, AnyIdle, SimpleText, PrtText, PrtSimple, PrtProtocol, PrtGroup, RuleText, DeclText, NetworkDecl, RouterDecl, GroupDecl, AreaDecl, AggregateDecl, ProtocolDecl, ProtocolGroupDecl, RestrictionDecl, ServiceDecl}
+use Rattle.policy_model.specs.Lists.{is_nothing}
+use Rattle.spoc_ast.specs.Written.{Lexeme, PortText, SetText, NoParts, NetworkNamed, HostNamed, PortNamed, GroupNamed, AggregateNamed, AreaNamed, UserNamed, NetworksIn, HostsIn, ZonesIn, Joining, Keeping, Leaving, HostPartText, HostIp, HostRange, HostIdle, NatPartText, NetPartText, NetIp, NetHost, NetNat, NetIdle, RoutPartText, AreaPartText, AreaAnchor, AreaBorder, AreaIdle, AnyPartText, AnyLink, AnyIp, AnyIdle, PrtText, PrtSimple, PrtProtocol, PrtGroup, RuleText, DeclText, NetworkDecl, RouterDecl, GroupDecl, AreaDecl, AggregateDecl, ProtocolDecl, ProtocolGroupDecl, RestrictionDecl, ServiceDecl}
 use Rattle.policy_decls.specs.Numbers.{address_of, prefix_of, range_of, spread, holds_of, is_bad_simple}
-use Rattle.policy_decls.specs.Lookup.{only_one, network_parts, ips_in_net_part, ips_in_nat_part, ips_in_nats, own_prefix, aligned, has_host_bit, router_parts, is_managed_router, managed_in, models_in, routings_in, IfaceText, ifaces_in, declared_ifaces, is_port, iface_addresses, iface_hardware, iface_binds}
+use Rattle.policy_decls.specs.Lookup.{network_parts, ips_in_net_part, ips_in_nat_part, ips_in_nats, own_prefix, aligned, has_host_bit, router_parts, is_managed_router, managed_in, models_in, routings_in, IfaceText, ifaces_in, declared_ifaces, is_port, iface_addresses, iface_hardware, iface_binds}
 
 abbrev pub has_two : {A : Type 0} → List A → Bool
 has_two items = nat_lt 1 (length items)

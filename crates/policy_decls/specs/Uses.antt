@@ -1,10 +1,9 @@
 -- The names that declarations use.
-use Rattle.std.specs.Prelude.{ℕ, Bool, true, false, not, ◌&&◌, ◌||◌, List, [], ◌∷◌, ◌++◌, map, flat_map, filter, slice_get, Option, Some, None, option_map}
+use Rattle.std.specs.Prelude.{Bool, not, ◌&&◌, ◌||◌, List, [], ◌∷◌, ◌++◌, map, flat_map, filter, Option, Some, None}
 use Rattle.std.specs.Str.{bytes_eq}
 use Rattle.std.specs.List.{list_any}
-use Rattle.spoc_base.specs.declared.place.Named.{Named}
-use Rattle.spoc_ast.specs.Written.{Lexeme, PortText, SetText, NoParts, NetworkNamed, HostNamed, PortNamed, GroupNamed, AggregateNamed, AreaNamed, UserNamed, NetworksIn, HostsIn, ZonesIn, Joining, Keeping, Leaving, IfPartText, IfIp, IfHardware, IfBindNat, IfIdle, RoutPartText, RoutManaged, RoutModel, RoutRouting, RoutIface, RoutIdle, AreaPartText, AreaAnchor, AreaBorder, AreaIdle, AnyPartText, AnyLink, AnyIp, AnyIdle, PrtText, PrtSimple, PrtProtocol, PrtGroup, RuleText, DeclText, NetworkDecl, RouterDecl, GroupDecl, AreaDecl, AggregateDecl, ProtocolDecl, ProtocolGroupDecl, RestrictionDecl, ServiceDecl}
-use Rattle.policy_decls.specs.Names.{NameKind, NetworkName, HostName, TagName, GroupName, AreaName, AggregateName, ProtocolName, ProtocolGroupName, number_of_kind, same_kind, Mention, mention, mention_port, declared_names}
+use Rattle.spoc_ast.specs.Written.{SetText, NoParts, NetworkNamed, HostNamed, PortNamed, GroupNamed, AggregateNamed, AreaNamed, UserNamed, NetworksIn, HostsIn, ZonesIn, Joining, Keeping, Leaving, IfPartText, IfIp, IfHardware, IfBindNat, IfIdle, RoutPartText, RoutManaged, RoutModel, RoutRouting, RoutIface, RoutIdle, AreaPartText, AreaAnchor, AreaBorder, AreaIdle, AnyPartText, AnyLink, AnyIp, AnyIdle, PrtText, PrtSimple, PrtProtocol, PrtGroup, RuleText, DeclText, NetworkDecl, RouterDecl, GroupDecl, AreaDecl, AggregateDecl, ProtocolDecl, ProtocolGroupDecl, RestrictionDecl, ServiceDecl}
+use Rattle.policy_decls.specs.Names.{NameKind, NetworkName, HostName, TagName, GroupName, AreaName, AggregateName, ProtocolName, ProtocolGroupName, same_kind, Mention, mention, mention_port}
 
 -- the names in a set, as they stand
 abbrev pub uses_in_set : SetText → List Mention
