@@ -7,3 +7,4 @@ pub mod Shapes
 pub mod Limits
 pub mod Said
 pub mod Faults
+pub mod Formed
