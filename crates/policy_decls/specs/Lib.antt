@@ -1,0 +1,10 @@
+pub mod Numbers
+pub mod Names
+pub mod Uses
+pub mod Nesting
+pub mod Lookup
+pub mod Shapes
+pub mod Limits
+pub mod Said
+pub mod Faults
+pub mod Formed
