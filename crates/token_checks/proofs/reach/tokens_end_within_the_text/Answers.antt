@@ -1,5 +1,5 @@
-use Rattle.spoc_parser.proofs.Bounds.{ends_within, ends_fit}
-use Rattle.spoc_parser.proofs.reach.tokens_end_within_the_text.Goals as goal
+use Rattle.token_checks.proofs.Bounds.{ends_within, ends_fit}
+use Rattle.token_checks.proofs.reach.tokens_end_within_the_text.Goals as goal
 
 pub returns-clause-within : goal.returns-clause-within
 returns-clause-within c = ends_within

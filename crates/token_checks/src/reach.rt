@@ -2,7 +2,7 @@ ghost use Rattle.std.specs.Prelude.{◌≡◌, ◌≤◌, ◌<◌, ◌+◌, ◌^
 ghost use Rattle.std.specs.List.{All};
 ghost use Rattle.spoc_lexer.specs.Tokens.{Tok, tokens_of};
 ghost use Rattle.spoc_lexer.specs.declared.token.Token.{Token};
-ghost use Rattle.spoc_parser.specs.Places.{toks_of};
+ghost use Rattle.token_checks.specs.Places.{toks_of};
 
 /// Each token of a text ends within it; in a text of at most 4 MiB the ends fit 32 bits.
 pub fn tokens_end_within_the_text()

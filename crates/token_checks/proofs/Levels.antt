@@ -5,9 +5,9 @@ use Rattle.std.proofs.lemmas.List.Sums.{fold_more}
 use Rattle.spoc_lexer.specs.Seen.{seen}
 use Rattle.spoc_lexer.specs.Tokens.{Tok}
 use Rattle.spoc_lexer.specs.declared.token.Token.{Token}
-use Rattle.spoc_parser.specs.Places.{toks_of}
-use Rattle.spoc_parser.specs.Nesting.{most_levels, opens, closes, level_behind, level_at, opens_beyond, is_too_deep_at}
-use Rattle.spoc_parser.proofs.Standing.{passes_here}
+use Rattle.token_checks.specs.Places.{toks_of}
+use Rattle.token_checks.specs.Nesting.{most_levels, opens, closes, level_behind, level_at, opens_beyond, is_too_deep_at}
+use Rattle.token_checks.proofs.Standing.{passes_here}
 
 pub one_more : (tokens : List Token) (place : ℕ) (other : Token) (level : ℕ) → place < length tokens → level ≡ level_at (toks_of tokens) place → level_behind level (seen (get_or tokens place other)) ≡ level_at (toks_of tokens) (place + 1)
 one_more tokens place other level h e =

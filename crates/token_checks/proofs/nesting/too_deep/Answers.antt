@@ -1,9 +1,9 @@
 use Rattle.std.proofs.Common.{below_more, ◌∙◌, sym}
-use Rattle.spoc_parser.specs.Places.{toks_of}
-use Rattle.spoc_parser.specs.Nesting.{level_at, opens_beyond}
-use Rattle.spoc_parser.proofs.Standing.{passes_nowhere}
-use Rattle.spoc_parser.proofs.Levels.{one_more, stays_low, fails_here}
-use Rattle.spoc_parser.proofs.nesting.too_deep.Goals as goal
+use Rattle.token_checks.specs.Places.{toks_of}
+use Rattle.token_checks.specs.Nesting.{level_at, opens_beyond}
+use Rattle.token_checks.proofs.Standing.{passes_nowhere}
+use Rattle.token_checks.proofs.Levels.{one_more, stays_low, fails_here}
+use Rattle.token_checks.proofs.nesting.too_deep.Goals as goal
 
 pub loop-place-preserved : goal.loop-place-preserved
 loop-place-preserved c =

@@ -1,7 +1,7 @@
 ghost use Rattle.std.specs.Prelude.{◌≡◌, ◌<◌, ◌≤◌, ◌^◌, length, IfSome, IfNone};
 ghost use Rattle.spoc_lexer.specs.Seen.{seen};
-ghost use Rattle.spoc_parser.specs.Places.{toks_of, IsFirst, NonePasses};
-ghost use Rattle.spoc_parser.specs.Nesting.{most_levels, opens, closes, level_behind, opens_beyond, is_too_deep_at};
+ghost use Rattle.token_checks.specs.Places.{toks_of, IsFirst, NonePasses};
+ghost use Rattle.token_checks.specs.Nesting.{most_levels, opens, closes, level_behind, opens_beyond, is_too_deep_at};
 
 use crate::signs::is_the_sign;
 use spoc_lexer::Token;

@@ -5,7 +5,7 @@ use Rattle.std.proofs.lemmas.Option.{slice_get-map, slice_get-get_or, slice_get_
 use Rattle.spoc_lexer.specs.Seen.{seen}
 use Rattle.spoc_lexer.specs.Tokens.{Tok}
 use Rattle.spoc_lexer.specs.declared.token.Token.{Token}
-use Rattle.spoc_parser.specs.Places.{toks_of, token_before, second_before, passes_there, NonePasses}
+use Rattle.token_checks.specs.Places.{toks_of, token_before, second_before, passes_there, NonePasses}
 
 pub seen_at : (tokens : List Token) (place : ℕ) (other : Token) → place < length tokens → slice_get (toks_of tokens) place ≡ Some (seen (get_or tokens place other))
 seen_at tokens place other h = slice_get-map seen tokens place ∙ ap (option_map seen) (slice_get-get_or tokens place other h)

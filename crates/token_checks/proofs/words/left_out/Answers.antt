@@ -1,8 +1,8 @@
 use Rattle.std.proofs.Common.{below_more, ◌∙◌, sym}
-use Rattle.spoc_parser.specs.Places.{token_before, second_before, toks_of}
-use Rattle.spoc_parser.specs.LeftOut.{is_left_out}
-use Rattle.spoc_parser.proofs.Standing.{passes_nowhere}
-use Rattle.spoc_parser.proofs.words.left_out.Goals as goal
+use Rattle.token_checks.specs.Places.{token_before, second_before, toks_of}
+use Rattle.token_checks.specs.LeftOut.{is_left_out}
+use Rattle.token_checks.proofs.Standing.{passes_nowhere}
+use Rattle.token_checks.proofs.words.left_out.Goals as goal
 
 pub loop-place-preserved : goal.loop-place-preserved
 loop-place-preserved c = below_more _ _ c.loop-place.invariant (sym c.is_left_out_at.ensures ∙ c.if-is_left_out_at.false)

@@ -2,8 +2,8 @@ ghost use Rattle.std.specs.Prelude.{◌≡◌, ◌<◌, ◌≤◌, ◌^◌, ◌&
 ghost use Rattle.std.specs.List.{list_any};
 ghost use Rattle.std.specs.Str.{bytes_eq};
 ghost use Rattle.spoc_lexer.specs.Seen.{seen};
-ghost use Rattle.spoc_parser.specs.Places.{toks_of, seen_there, IsFirst, NonePasses, is_word_kind, is_the_sign, token_before, second_before};
-ghost use Rattle.spoc_parser.specs.LeftOut.{is_among, begins_with, beginnings, part_words, value_words, valued_words, bracket_words, list_words, stands_behind, begins_part, is_word_among, begins_value, has_beginning, is_part_word, is_value_word, is_bracket_word, is_list_word, is_left_out, is_left_out_at};
+ghost use Rattle.token_checks.specs.Places.{toks_of, seen_there, IsFirst, NonePasses, is_word_kind, is_the_sign, token_before, second_before};
+ghost use Rattle.token_checks.specs.LeftOut.{is_among, begins_with, beginnings, part_words, value_words, valued_words, bracket_words, list_words, stands_behind, begins_part, is_word_among, begins_value, has_beginning, is_part_word, is_value_word, is_bracket_word, is_list_word, is_left_out, is_left_out_at};
 
 use crate::signs::{is_the_sign, is_word};
 use spoc_lexer::Token;

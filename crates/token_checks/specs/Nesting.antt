@@ -2,7 +2,7 @@
 use Rattle.std.specs.Prelude.{ℕ, ◌+◌, ◌-◌, Bool, ◌&&◌, ◌||◌, nat_le, List, slice_get, take, if◌then◌else◌}
 use Rattle.std.specs.List.{fold}
 use Rattle.spoc_lexer.specs.Tokens.{Tok}
-use Rattle.spoc_parser.specs.Places.{is_the_sign, passes_there}
+use Rattle.token_checks.specs.Places.{is_the_sign, passes_there}
 
 -- so many brackets may be open at once
 abbrev pub most_levels : ℕ

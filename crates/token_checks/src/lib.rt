@@ -1,4 +1,5 @@
-//! From tokens to declarations.
+//! What is looked at in tokens before they are read as declarations: words of the language that this
+//! compiler leaves out, and how deep brackets nest.
 #![tactic(auto)]
 
 mod nesting;

@@ -1,7 +1,7 @@
 use Rattle.std.proofs.Common.{◌≡◌, ℕ, ◌<◌, ◌≤◌, false}
-use Rattle.spoc_parser.specs.Places.{toks_of}
-use Rattle.spoc_parser.specs.Nesting.{most_levels, level_at, is_too_deep_at}
-use Rattle.spoc_parser.proofs.nesting.too_deep.Given as goal
+use Rattle.token_checks.specs.Places.{toks_of}
+use Rattle.token_checks.specs.Nesting.{most_levels, level_at, is_too_deep_at}
+use Rattle.token_checks.proofs.nesting.too_deep.Given as goal
 
 abbrev pub invariant-loop-place : goal.invariant-loop-place
 invariant-loop-place l =

@@ -1,6 +1,6 @@
 ghost use Rattle.std.specs.Prelude.{◌≡◌};
 ghost use Rattle.spoc_lexer.specs.Seen.{seen};
-ghost use Rattle.spoc_parser.specs.Places.{is_word_kind, is_the_sign};
+ghost use Rattle.token_checks.specs.Places.{is_word_kind, is_the_sign};
 
 use spoc_lexer::{Token, TokenKind};
 

@@ -10,7 +10,7 @@ use Rattle.spoc_lexer.specs.Tokens.{Tok, tokens_of, IsPart}
 use Rattle.spoc_lexer.specs.Grammar.{Piece, Blank, Comment, Word, Sign, Text, joined, tokens_from}
 use Rattle.spoc_lexer.specs.Seen.{seen}
 use Rattle.spoc_lexer.specs.declared.token.Token.{Token}
-use Rattle.spoc_parser.specs.Places.{toks_of}
+use Rattle.token_checks.specs.Places.{toks_of}
 use Rattle.spoc_lexer.proofs.Slices.{tokens_are_parts}
 use Rattle.spoc_lexer.proofs.Standing.{Follow, follow}
 use Rattle.spoc_lexer.proofs.Dividing.{has_tokens}

@@ -3,7 +3,7 @@ use Rattle.std.specs.Prelude.{ℕ, Bool, false, ◌&&◌, ◌||◌, List, [], �
 use Rattle.std.specs.List.{list_any}
 use Rattle.std.specs.Str.{bytes_eq}
 use Rattle.spoc_lexer.specs.Tokens.{Tok}
-use Rattle.spoc_parser.specs.Places.{is_word_kind, is_the_sign, token_before, second_before, passes_there}
+use Rattle.token_checks.specs.Places.{is_word_kind, is_the_sign, token_before, second_before, passes_there}
 
 -- a word that begins with one of these is left out wherever it stands
 abbrev pub beginnings : List (List ℕ)
