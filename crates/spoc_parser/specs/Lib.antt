@@ -5,3 +5,5 @@ pub mod Grammar
 pub mod Readers
 pub mod Reading
 pub mod Files
+pub mod Reach
+pub mod Seen
