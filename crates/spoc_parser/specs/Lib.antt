@@ -1,0 +1,9 @@
+pub mod Trees
+pub mod Texts
+pub mod Phrases
+pub mod Grammar
+pub mod Readers
+pub mod Reading
+pub mod Files
+pub mod Reach
+pub mod Seen

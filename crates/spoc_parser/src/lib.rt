@@ -1,0 +1,9 @@
+//! From tokens to the declarations of a policy file.
+#![tactic(auto)]
+
+mod cursor;
+mod fail;
+mod forms;
+mod words;
+
+pub use fail::ParseFail;
