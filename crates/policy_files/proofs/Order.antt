@@ -1,5 +1,5 @@
 -- The order of faults.
-use Rattle.std.specs.Prelude.{◌≡◌, refl, ℕ, suc, Bool, true, false, nat_lt, if◌then◌else◌, List, ◌∷◌, Option, Some, None, option_map}
+use Rattle.std.specs.Prelude.{◌≡◌, refl, ℕ, ◌+◌, Bool, true, false, nat_lt, if◌then◌else◌, List, ◌∷◌, Option, Some, None, option_map}
 use Rattle.std.proofs.Common.{arith, ap, sym, ◌∙◌}
 use Rattle.spoc_base.specs.declared.fault.Fault.{Fault}
 use Rattle.spoc_lexer.specs.Tokens.{Tok}
@@ -44,10 +44,10 @@ rows k None None None (Some x) None None None (Some _) = refl
 rows k None None None (Some x) None None None None = refl
 rows k None None None None a' b' c' d' = refl
 
-pub more : (k : ℕ) (text : List ℕ) (texts : List (List ℕ)) → faults_from k (text ∷ texts) ≡ earlier (text_fault k text) (faults_from (suc k) texts)
+pub more : (k : ℕ) (text : List ℕ) (texts : List (List ℕ)) → faults_from k (text ∷ texts) ≡ earlier (text_fault k text) (faults_from (k + 1) texts)
 more k text texts =
     rows k (bad_byte text) (omitted_word text) (deep_bracket text) (unread_token text)
-      (first_in bad_byte (suc k) texts) (first_in omitted_word (suc k) texts) (first_in deep_bracket (suc k) texts) (first_in unread_token (suc k) texts)
+    (first_in bad_byte (k + 1) texts) (first_in omitted_word (k + 1) texts) (first_in deep_bracket (k + 1) texts) (first_in unread_token (k + 1) texts)
 
 chosen : (a b : Fault) (x : Bool) → nat_lt (rank b) (rank a) ≡ x → earlier_of a b ≡ (if x then b else a)
 chosen a b x e = ap (λ t. if t then b else a) e

@@ -58,7 +58,7 @@ or_else (Some a) other = Some a
 -- what a test finds in the first of some texts in which it finds something, with the number of that text, the first one being the k-th
 abbrev pub first_in : {A : Type 0} → (List ℕ → Option A) → ℕ → List (List ℕ) → Option (ℕ × A)
 first_in test k [] = None
-first_in test k (text ∷ texts) = or_else (option_map (λ a. (k, a)) (test text)) (first_in test (suc k) texts)
+first_in test k (text ∷ texts) = or_else (option_map (λ a. (k, a)) (test text)) (first_in test (k + 1) texts)
 
 abbrev pub span_of : ℕ → Tok → Span
 span_of k tok = record { file = k; start = tok.start; «end» = tok.start + length tok.text }

@@ -1,2 +1,3 @@
 pub mod Fault
 pub mod Rank
+pub mod Seen

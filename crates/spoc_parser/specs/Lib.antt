@@ -8,3 +8,4 @@ pub mod Files
 pub mod Reach
 pub mod Seen
 pub mod Levels
+pub mod Run

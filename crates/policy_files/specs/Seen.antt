@@ -1,0 +1,15 @@
+-- What clauses see of refusals and sources.
+use Rattle.std.specs.Prelude.{ℕ, List, map}
+use Rattle.spoc_base.specs.declared.fault.Fault.{Fault}
+use Rattle.spoc_base.specs.declared.fault.Refusal.{Refusal}
+use Rattle.spoc_base.specs.declared.fault.Refusal.TheVariants as refusal
+use Rattle.spoc_base.specs.declared.place.Source.{Source}
+
+-- P holds of the fault, unless memory ran out
+abbrev pub IsRefusalOf : (Fault → Type 0) → Refusal → Type 0
+IsRefusalOf P (refusal.Policy fault) = P fault
+IsRefusalOf P refusal.Memory = Unit {0}
+
+-- the texts of sources
+abbrev pub texts_of : List Source → List (List ℕ)
+texts_of sources = map (λ s. s.text) sources
