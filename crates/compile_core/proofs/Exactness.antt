@@ -23,7 +23,9 @@ use Rattle.compile_core.specs.Consistent.{network_names, is_inconsistent}
 use Rattle.compile_core.specs.Reading.{read_narrow}
 use Rattle.compile_core.specs.Entries.{Numbered, numbered_in, lines_at, lists_from}
 use Rattle.compile_core.specs.DeviceText.{device_text}
-use Rattle.compile_core.specs.Outcome.{Written, written, device_of, outcome_of, outcome_of_tokens, outcome_of_narrow}
+use Rattle.compile_core.specs.Outcome.{Written, written, device_of, outcome_of, outcome_of_tokens, outcome_of_narrow, outcome_of_files}
+use Rattle.policy_files.specs.Fault.{fault_of_texts}
+use Rattle.compile_core.proofs.Unrefused.{without_fault}
 use Rattle.compile_core.specs.Accepted.{iface_in, policy_in, site_in, views_in, meaning_in, config_in, narrow_from, narrow_in, IsExactFile, AreExact}
 use Rattle.compile_core.proofs.Empty.{empty_is_exact}
 use Rattle.compile_core.proofs.Facts.{Fits, fits}
@@ -119,7 +121,7 @@ from_tokens : (r : Result (List Tok) ℕ) (w : Written) → outcome_of_tokens r 
 from_tokens (Err offset) w h = cc
 from_tokens (Ok toks) w h = from_narrow (read_narrow toks) w h
 
-from_sources : (s : List ℕ × List ℕ) (rest : List (List ℕ × List ℕ)) (w : Written) → outcome_of (s ∷ rest) ≡ Ok w → IsCompiled (narrow_in (s ∷ rest)) w
+from_sources : (s : List ℕ × List ℕ) (rest : List (List ℕ × List ℕ)) (w : Written) → outcome_of_files (s ∷ rest) ≡ Ok w → IsCompiled (narrow_in (s ∷ rest)) w
 from_sources s [] w h = from_tokens (tokens_of s.1) w h
 from_sources s (r ∷ rest) w h = cc
 
@@ -127,7 +129,7 @@ written_files : (f : Narrow) → (written f).files ≡ (f.router.name, device_te
 unfolding device_of
 written_files f = refl
 
-file_exact : (s : List ℕ × List ℕ) (rest : List (List ℕ × List ℕ)) (w : Written) → outcome_of (s ∷ rest) ≡ Ok w → IsExactFile (s ∷ rest) w
+file_exact : (s : List ℕ × List ℕ) (rest : List (List ℕ × List ℕ)) (w : Written) → outcome_of_files (s ∷ rest) ≡ Ok w → IsExactFile (s ∷ rest) w
 file_exact s rest w h =
     let c = from_sources s rest w h in
     let f = c.file in
@@ -140,6 +142,9 @@ file_exact s rest w h =
       lists = λ i below. list_is_own f ok i below;
     }
 
+files_exact : (sources : List (List ℕ × List ℕ)) (w : Written) → outcome_of_files sources ≡ Ok w → AreExact sources w
+files_exact [] w h = record { exact = empty_is_exact; files = sym (ap (λ (r : Result Written Fault). (value_of w r).files) h) }
+files_exact (s ∷ rest) w h = file_exact s rest w h
+
 pub all_exact : (sources : List (List ℕ × List ℕ)) (w : Written) → outcome_of sources ≡ Ok w → AreExact sources w
-all_exact [] w h = record { exact = empty_is_exact; files = sym (ap (λ (r : Result Written Fault). (value_of w r).files) h) }
-all_exact (s ∷ rest) w h = file_exact s rest w h
+all_exact sources w h = files_exact sources w (without_fault (fault_of_texts (map (λ s. s.1) sources)) (outcome_of_files sources) w h)

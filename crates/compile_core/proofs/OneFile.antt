@@ -1,5 +1,5 @@
 -- There is one device file, or none.
-use Rattle.std.proofs.Common.{◌≡◌, ℕ, Bool, true, false, List, [], ◌∷◌, Option, Some, None, Result, Ok, Err, cond, subst}
+use Rattle.std.proofs.Common.{◌≡◌, ℕ, Bool, true, false, List, [], ◌∷◌, Option, Some, None, Result, Ok, Err, cond, subst, map}
 use Rattle.std.specs.Str.{bytes_eq}
 use Rattle.std.specs.List.{IsDistinct}
 use Rattle.spoc_base.specs.declared.fault.Fault.{Fault}
@@ -8,7 +8,9 @@ use Rattle.spoc_lexer.specs.Tokens.{Tok, tokens_of}
 use Rattle.compile_core.specs.Narrow.{Narrow}
 use Rattle.compile_core.specs.Reading.{read_narrow}
 use Rattle.compile_core.specs.Consistent.{is_inconsistent}
-use Rattle.compile_core.specs.Outcome.{Written, written, nothing_written, outcome_of_tokens, outcome_of_narrow}
+use Rattle.compile_core.specs.Outcome.{Written, written, nothing_written, outcome_of_tokens, outcome_of_narrow, outcome_of_files}
+use Rattle.policy_files.specs.Fault.{fault_of_texts}
+use Rattle.compile_core.proofs.Unrefused.{without_fault}
 use Rattle.compile_core.specs.FileNames.{FilesHaveDistinctNames, file_names}
 
 one_name : (f : Narrow) → IsDistinct bytes_eq (file_names (written f))
@@ -34,7 +36,10 @@ tokens_or : (r : Result (List Tok) ℕ) (w : Written) → outcome_of_tokens r �
 tokens_or (Err offset) w e = cc
 tokens_or (Ok toks) w e = narrow_or (read_narrow toks) w e
 
+distinct_in_files : (sources : List (List ℕ × List ℕ)) (w : Written) → outcome_of_files sources ≡ Ok w → IsDistinct bytes_eq (file_names w)
+distinct_in_files [] w e = subst (λ w. IsDistinct bytes_eq (file_names w)) (ok_is nothing_written w e) no_names
+distinct_in_files (s ∷ []) w e = tokens_or (tokens_of s.1) w e
+distinct_in_files (s ∷ r ∷ sources) w e = cc
+
 pub distinct_names : FilesHaveDistinctNames
-distinct_names [] w e = subst (λ w. IsDistinct bytes_eq (file_names w)) (ok_is nothing_written w e) no_names
-distinct_names (s ∷ []) w e = tokens_or (tokens_of s.1) w e
-distinct_names (s ∷ r ∷ sources) w e = cc
+distinct_names sources w e = distinct_in_files sources w (without_fault (fault_of_texts (map (λ s. s.1) sources)) (outcome_of_files sources) w e)

@@ -4,6 +4,7 @@ use Rattle.std.specs.Fmt.{decimal}
 use Rattle.spoc_base.specs.declared.fault.Fault.{Fault}
 use Rattle.spoc_base.specs.declared.fault.Fault.TheVariants.{Form, Names}
 use Rattle.spoc_lexer.specs.Tokens.{Tok, tokens_of}
+use Rattle.policy_files.specs.Fault.{fault_of_texts}
 use Rattle.compile_core.specs.Narrow.{Network, Interface, Service, Narrow}
 use Rattle.compile_core.specs.Reading.{read_narrow}
 use Rattle.compile_core.specs.Consistent.{number_in, is_inconsistent}
@@ -66,11 +67,24 @@ outcome_of_text text = outcome_of_tokens (tokens_of text)
 abbrev pub nothing_written : Written
 nothing_written = record { files = []; counts = record { networks = 0; zones = 0; routers = 0; permits = 0; local = 0; lines = 0; routes = 0 } }
 
--- The files and the summary of a policy, or its fault, by the paths and texts of its sources. No sources say the empty policy.
+-- The files and the summary of a policy whose texts have no fault, or its fault, by the paths and texts of its sources. No sources say the empty policy.
+abbrev pub outcome_of_files : List (List ℕ × List ℕ) → Result Written Fault
+outcome_of_files [] = Ok nothing_written
+outcome_of_files (s ∷ []) = outcome_of_text s.1
+outcome_of_files (s ∷ r ∷ sources) = Err Form
+
+-- a fault counts before anything else
+abbrev pub unless_fault : Option Fault → Result Written Fault → Result Written Fault
+unless_fault None outcome = outcome
+unless_fault (Some fault) outcome = Err fault
+
+-- the texts of sources
+abbrev pub source_texts : List (List ℕ × List ℕ) → List (List ℕ)
+source_texts sources = map (λ s. s.1) sources
+
+-- The files and the summary of a policy, or its fault: that of the texts comes before all others.
 abbrev pub outcome_of : List (List ℕ × List ℕ) → Result Written Fault
-outcome_of [] = Ok nothing_written
-outcome_of (s ∷ []) = outcome_of_text s.1
-outcome_of (s ∷ r ∷ sources) = Err Form
+outcome_of sources = unless_fault (fault_of_texts (source_texts sources)) (outcome_of_files sources)
 
 abbrev pub count_line : List ℕ → ℕ → List ℕ
 count_line word n = word ++ decimal n ++ codes "\n"

@@ -1,11 +1,12 @@
-ghost use Rattle.std.specs.Prelude.{◌≡◌, ◌++◌, ◌≤◌, IfOk, IfErr, OnOk, Ok, Err, codes, map, length, filter};
+ghost use Rattle.std.specs.Prelude.{◌≡◌, ◌++◌, ◌≤◌, IfOk, IfErr, OnOk, Ok, Err, Some, None, codes, map, length, filter};
 ghost use Rattle.std.specs.List.{All};
 ghost use Rattle.std.specs.Fmt.{decimal};
 ghost use Rattle.compile_core.specs.Consistent.{number_in};
 ghost use Rattle.compile_core.specs.Entries.{numbered_in, lists_from};
 ghost use Rattle.compile_core.specs.DeviceText.{device_text};
 ghost use Rattle.compile_core.specs.Seen.{narrow_of, numbered_of, service_of, interface_of, network_of};
-ghost use Rattle.compile_core.specs.Outcome.{outcome_of, outcome_of_text, outcome_of_tokens, written, nothing_written, counts_in, is_local, summary_text, device_of};
+ghost use Rattle.compile_core.specs.Outcome.{outcome_of, outcome_of_files, source_texts, outcome_of_text, outcome_of_tokens, written, nothing_written, counts_in, is_local, summary_text, device_of};
+ghost use Rattle.policy_files.specs.Fault.{fault_of_texts};
 ghost use Rattle.compile_core.specs.Answer.{pair_of, written_of, counts_of, IsRefusalOf};
 
 use crate::consistent::{Tables, resolve};
@@ -13,6 +14,8 @@ use crate::entry::entries;
 use crate::lists::{put_bindings, put_lists};
 use crate::reading::{InterfaceDecl, NarrowFile, NetworkDecl, ServiceDecl, narrow};
 use crate::text::{put, put_count};
+use bumpalo::Bump;
+use policy_files::read_files;
 use spoc_base::{Fault, NoMemory, Refusal, Row, Source, Text};
 use spoc_lexer::{LexFail, tokens};
 use std::alloc::Global;
@@ -166,21 +169,47 @@ fn nothing(alloc: Global) -> Compiled
     }
 }
 
-/// The device files and the summary of a policy. No sources say the empty policy, which has no
-/// files and a summary of zeros. `Form` comes exactly where there is more than one source, or the
-/// one isn't of the narrow form: networks, one managed router that runs IOS, and services by TCP
-/// from one network to another. `Names` comes exactly where it is, but its names, addresses and
-/// services don't fit together.
-pub fn compile(alloc: Global, sources: &[Source]) -> Result<Compiled, Refusal>
+// What sources compile to whose texts have no fault.
+fn compile_files(alloc: Global, sources: &[Source]) -> Result<Compiled, Refusal>
     requires { All (λ s. length s.text ≤ 4194304) sources.now }
-    ensures ok { IfOk result (λ c. outcome_of (map pair_of sources.now) ≡ Ok (written_of c)) }
-    ensures refused { IfErr result (IsRefusalOf (λ fault. outcome_of (map pair_of sources.now) ≡ Err fault)) }
+    ensures ok { IfOk result (λ c. outcome_of_files (map pair_of sources.now) ≡ Ok (written_of c)) }
+    ensures refused { IfErr result (IsRefusalOf (λ fault. outcome_of_files (map pair_of sources.now) ≡ Err fault)) }
 {
     match sources {
         [] => Ok(nothing(alloc)),
         [source] => compile_text(alloc, source.text.bytes()),
         [_, _, ..] => Err(Refusal::Policy(Fault::Form)),
     }
+}
+
+// Whether the texts of sources are in the policy language.
+fn check_texts(alloc: Global, sources: &[Source]) -> Result<(), Refusal>
+    requires { All (λ s. length s.text ≤ 4194304) sources.now }
+    ensures ok { OnOk result (fault_of_texts (source_texts (map pair_of sources.now)) ≡ None) }
+    ensures refused { IfErr result (IsRefusalOf (λ fault. fault_of_texts (source_texts (map pair_of sources.now)) ≡ Some fault)) }
+{
+    let arena = Bump::new(alloc);
+    match read_files(alloc, &arena, sources) {
+        Ok(_) => Ok(()),
+        Err(refusal) => Err(refusal),
+    }
+}
+
+/// The device files and the summary of a policy. No sources say the empty policy, which has no
+/// files and a summary of zeros.
+///
+/// A fault of the texts comes first: a byte at which no token begins, a word that is left out, a
+/// bracket that opens a seventeenth level, or what is no declaration. `Form` comes exactly where
+/// there is none of these, and more than one source, or the one isn't of the narrow form: networks,
+/// one managed router that runs IOS, and services by TCP from one network to another. `Names` comes
+/// exactly where it is, but its names, addresses and services don't fit together.
+pub fn compile(alloc: Global, sources: &[Source]) -> Result<Compiled, Refusal>
+    requires { All (λ s. length s.text ≤ 4194304) sources.now }
+    ensures ok { IfOk result (λ c. outcome_of (map pair_of sources.now) ≡ Ok (written_of c)) }
+    ensures refused { IfErr result (IsRefusalOf (λ fault. outcome_of (map pair_of sources.now) ≡ Err fault)) }
+{
+    check_texts(alloc, sources)?;
+    compile_files(alloc, sources)
 }
 
 fn summary_bytes(alloc: Global, summary: &Summary) -> Result<Vec<u8>, NoMemory>
