@@ -1,5 +1,4 @@
 -- One name is distinct.
-use Rattle.std.proofs.Common.{[]}
 use Rattle.std.specs.List.{IsDistinct}
 use Rattle.spoc_run.proofs.tests.folder.Goals as goal
 

@@ -1,5 +1,4 @@
 -- No name is there.
-use Rattle.std.proofs.Common.{[]}
 use Rattle.std.specs.List.{IsDistinct}
 use Rattle.spoc_run.proofs.tests.target.Goals as goal
 
