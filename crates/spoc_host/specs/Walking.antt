@@ -1,5 +1,5 @@
 -- How the walk through a real folder goes on at each entry.
-use Rattle.std.specs.Prelude.{ℕ, ◌||◌, nat_le, Bool, false, List, [], ◌∷◌}
+use Rattle.std.specs.Prelude.{◌≤◌, ℕ, ◌||◌, nat_le, Bool, false, List, [], ◌∷◌}
 use Rattle.spoc_host.specs.declared.walk.Kind.{Kind}
 use Rattle.spoc_host.specs.declared.walk.Kind.TheVariants.{Plain, Folder, Other}
 use Rattle.spoc_host.specs.declared.walk.Subfolder.{Subfolder}
@@ -33,3 +33,8 @@ abbrev pub waiting_at : Kind → List ℕ → ℕ → List Subfolder
 waiting_at Plain path level = []
 waiting_at Folder path level = record { path = path; level = level } ∷ []
 waiting_at Other path level = []
+
+-- No more files are found than entries are met, and no more entries are met than are allowed.
+pub record IsWithin (found entries : ℕ) : Type 0 where
+  pub found_fits : found ≤ entries
+  pub entries_fit : entries ≤ most_entries

@@ -4,6 +4,7 @@ ghost use Rattle.spoc_io.specs.Files.{bytes_at, ListsPaths, Puts, PutsPart};
 ghost use Rattle.std.specs.Option.{ForSome};
 ghost use Rattle.spoc_io.specs.Memory.{after_large};
 ghost use Rattle.spoc_host.specs.Counts.{after_failure, after_error};
+ghost use Rattle.spoc_host.specs.Walking.{most_entries};
 
 use crate::file::{read_file, write_file};
 use crate::walk::list_paths;
@@ -88,6 +89,9 @@ impl<'p, R: Files + AllocGlobal + Clone + Drop> Folder for HostFolder<'p, R> {
         // It counts a failure, and nothing else.
         ensures count { self.new.read_faults ≡ after_failure self.old.read_faults result }
         ensures writes { self.new.write_faults ≡ self.old.write_faults }
+
+        // It never lists more paths than there may be entries.
+        ensures most { IfOk result (λ paths. length paths.items ≤ most_entries) }
     {
         let answer = list_paths(&self.rt, alloc, self.path);
         count_failure(&answer, &mut self.read_faults);

@@ -1,6 +1,6 @@
-ghost use Rattle.std.specs.Prelude.{◌≡◌, ◌+◌, ◌++◌, OnOk, IsErrOf, true, false};
+ghost use Rattle.std.specs.Prelude.{◌≡◌, ◌≤◌, ◌+◌, ◌++◌, IfOk, OnOk, IsErrOf, length, true, false};
 ghost use Rattle.spoc_host.specs.Paths.{path_in};
-ghost use Rattle.spoc_host.specs.Walking.{ends_walk, found_at, waiting_at};
+ghost use Rattle.spoc_host.specs.Walking.{IsWithin, ends_walk, found_at, most_entries, waiting_at};
 
 use crate::file::fail_of;
 use crate::path::{path_in, system_path};
@@ -96,7 +96,7 @@ impl Walk {
     }
 }
 
-// Takes all entries of one folder.
+// Takes all entries of one folder. At most as many files as entries are found.
 fn walk_folder<R: Files + AllocGlobal + Clone + Drop>(
     rt: &R,
     alloc: Global,
@@ -104,6 +104,8 @@ fn walk_folder<R: Files + AllocGlobal + Clone + Drop>(
     folder: &Subfolder,
     walk: &mut Walk,
 ) -> Result<(), IoFail>
+    requires { IsWithin (length walk.old.found.items) walk.old.entries }
+    ensures within { OnOk result (IsWithin (length walk.new.found.items) walk.new.entries) }
     ensures no_size { IsErrOf result IoFail.TooLarge → ⊥ }
 {
     let path = system_path(alloc, opened, folder.path.bytes())?;
@@ -126,6 +128,7 @@ pub fn list_paths<R: Files + AllocGlobal + Clone + Drop>(
     alloc: Global,
     opened: &str,
 ) -> Result<Vec<Text>, IoFail>
+    ensures count { IfOk result (λ paths. length paths.items ≤ most_entries) }
     ensures no_size { IsErrOf result IoFail.TooLarge → ⊥ }
 {
     let mut walk = Walk {
