@@ -1,5 +1,6 @@
-ghost use Rattle.std.specs.Prelude.{◌≡◌, ◌≤◌, ◌+◌, IfOk, IsErrOf, length, vec_len};
+ghost use Rattle.std.specs.Prelude.{◌≡◌, ◌≤◌, ◌+◌, IfOk, OnOk, IsErrOf, false, length, vec_len};
 ghost use Rattle.std.specs.Option.{ForSome};
+ghost use Rattle.spoc_host.specs.Paths.{leads_out};
 
 use crate::path::{is_below_folders, leads_out, system_path};
 use spoc_base::Text;
@@ -23,7 +24,9 @@ pub fn fail_of(error: &io::Error) -> IoFail
 }
 
 // The path of a file that may be opened: one within the opened folder, below folders and no links.
-fn file_path<R: Files>(rt: &R, alloc: Global, opened: &str, path: &[u8]) -> Result<String, IoFail> {
+fn file_path<R: Files>(rt: &R, alloc: Global, opened: &str, path: &[u8]) -> Result<String, IoFail>
+    ensures { OnOk result (leads_out path.now ≡ false) }
+{
     if leads_out(path) {
         return Err(IoFail::Failed);
     }
@@ -40,31 +43,33 @@ fn is_same(one: &Metadata, other: &Metadata) -> bool {
     one.dev() == other.dev() && one.ino() == other.ino()
 }
 
-// Opens the plain file that was found under a path.
-fn open_found<R: Files>(
-    rt: &R,
-    path: &str,
-    found: &Metadata,
-    options: &OpenOptions,
-) -> Result<R::File, IoFail> {
-    if !found.is_file() {
-        return Err(IoFail::Failed);
+// What is known of the plain file under a path.
+fn find_plain<R: Files>(rt: &R, path: &str) -> Result<Metadata, IoFail> {
+    let found = fs::symlink_metadata(rt, path).map_err(|e| fail_of(&e))?;
+    if found.is_file() {
+        Ok(found)
+    } else {
+        Err(IoFail::Failed)
     }
+}
+
+// Opens a plain file, which still stands under the path once it is open.
+fn open_plain<R: Files>(rt: &R, path: &str, options: &OpenOptions) -> Result<R::File, IoFail> {
     let file = options.open(rt, path).map_err(|e| fail_of(&e))?;
     let opened = file.metadata().map_err(|e| fail_of(&e))?;
-    if is_same(found, &opened) {
+    if is_same(&find_plain(rt, path)?, &opened) {
         Ok(file)
     } else {
         Err(IoFail::Failed)
     }
 }
 
-// Opens a plain file to read it.
+// Opens a plain file to read it. Nothing else is opened, since that may wait or reach a device.
 fn open_to_read<R: Files>(rt: &R, path: &str) -> Result<R::File, IoFail> {
-    let found = fs::symlink_metadata(rt, path).map_err(|e| fail_of(&e))?;
+    find_plain(rt, path)?;
     let mut options = OpenOptions::new();
     options.read(true);
-    open_found(rt, path, &found, &options)
+    open_plain(rt, path, &options)
 }
 
 // Opens a plain file to write it anew, or makes it.
@@ -72,11 +77,12 @@ fn open_to_write<R: Files>(rt: &R, path: &str) -> Result<R::File, IoFail> {
     let mut options = OpenOptions::new();
     options.write(true);
     match fs::symlink_metadata(rt, path) {
-        Ok(found) => {
-            let file = open_found(rt, path, &found, &options)?;
+        Ok(found) if found.is_file() => {
+            let file = open_plain(rt, path, &options)?;
             file.set_len(0).map_err(|e| fail_of(&e))?;
             Ok(file)
         }
+        Ok(_) => Err(IoFail::Failed),
         Err(error) if error.kind() == io::ErrorKind::NotFound => {
             options.create_new(true);
             options.open(rt, path).map_err(|e| fail_of(&e))
@@ -122,6 +128,7 @@ pub fn read_file<R: Files>(
     limit: u64,
 ) -> Result<Text, IoFail>
     ensures small { IfOk result (λ text. length text ≤ limit) }
+    ensures inner { OnOk result (leads_out path.now ≡ false) }
 {
     let path = file_path(rt, alloc, opened, path)?;
     let file = open_to_read(rt, path.as_str())?;
@@ -141,7 +148,9 @@ pub fn write_file<R: Files>(
     opened: &str,
     path: &[u8],
     bytes: &[u8],
-) -> Result<(), IoFail> {
+) -> Result<(), IoFail>
+    ensures inner { OnOk result (leads_out path.now ≡ false) }
+{
     let path = file_path(rt, alloc, opened, path)?;
     let mut file = open_to_write(rt, path.as_str())?;
     file.write_all(bytes).map_err(|e| fail_of(&e))

@@ -1,9 +1,10 @@
-ghost use Rattle.std.specs.Prelude.{◌≡◌, ◌≤◌, ◌+◌, IfOk, IfSome, OnOk, OnErr, IsErrOf, Some, None, length};
+ghost use Rattle.std.specs.Prelude.{◌≡◌, ◌≤◌, ◌+◌, IfOk, IfSome, OnOk, OnErr, IsErrOf, Some, None, false, length};
 ghost use Rattle.spoc_io.specs.Causes.{BothTold, HasCause, HasReadCause, CountsLarge};
 ghost use Rattle.spoc_io.specs.Files.{bytes_at, ListsPaths, Puts, PutsPart};
 ghost use Rattle.std.specs.Option.{ForSome};
 ghost use Rattle.spoc_io.specs.Memory.{after_large};
 ghost use Rattle.spoc_host.specs.Counts.{after_failure, after_error};
+ghost use Rattle.spoc_host.specs.Paths.{leads_out};
 ghost use Rattle.spoc_host.specs.Walking.{most_entries};
 
 use crate::file::{read_file, write_file};
@@ -114,6 +115,9 @@ impl<'p, R: Files + AllocGlobal + Clone + Drop> Folder for HostFolder<'p, R> {
         ensures count { self.new.read_faults ≡ after_failure self.old.read_faults result }
         ensures large_count { self.new.larges ≡ after_large self.old.larges result }
         ensures writes { self.new.write_faults ≡ self.old.write_faults }
+
+        // What it reads lies in the folder: no part of the path is empty, `.` or `..`.
+        ensures inner { OnOk result (leads_out path.now ≡ false) }
     {
         let answer = read_file(&self.rt, alloc, self.path, path, limit);
         count_failure(&answer, &mut self.read_faults);
@@ -138,6 +142,9 @@ impl<'p, R: Files + AllocGlobal + Clone + Drop> Target for HostFolder<'p, R> {
         // It counts a failure, and nothing else.
         ensures count { self.new.write_faults ≡ after_error self.old.write_faults result }
         ensures reads { self.new.read_faults ≡ self.old.read_faults }
+
+        // What it writes lies in the folder: no part of the name is empty, `.` or `..`.
+        ensures inner { OnOk result (leads_out name.now ≡ false) }
     {
         if write_file(&self.rt, self.rt.alloc(), self.path, name, bytes).is_err() {
             self.write_faults = self.write_faults.saturating_add(1);

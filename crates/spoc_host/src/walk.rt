@@ -1,4 +1,5 @@
 ghost use Rattle.std.specs.Prelude.{◌≡◌, ◌≤◌, ◌+◌, ◌++◌, IfOk, OnOk, IsErrOf, length, true, false};
+ghost use Rattle.std.specs.Fs.{IsDir, IsFile};
 ghost use Rattle.spoc_host.specs.Paths.{path_in};
 ghost use Rattle.spoc_host.specs.Walking.{IsWithin, ends_walk, found_at, most_entries, waiting_at};
 
@@ -43,7 +44,11 @@ struct Walk {
 }
 
 // What an entry is.
-fn kind_of(kind: FileType) -> Kind {
+fn kind_of(kind: FileType) -> Kind
+    ensures plain { result ≡ Kind.Plain → IsFile kind }
+    ensures folder { result ≡ Kind.Folder → IsDir kind }
+    ensures other { result ≡ Kind.Other → (IsFile kind → ⊥) × (IsDir kind → ⊥) }
+{
     if kind.is_file() {
         Kind::Plain
     } else if kind.is_dir() {
