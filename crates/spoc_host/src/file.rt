@@ -1,12 +1,13 @@
 ghost use Rattle.std.specs.Prelude.{◌≡◌, ◌≤◌, ◌+◌, IfOk, OnOk, IsErrOf, false, length, vec_len};
 ghost use Rattle.std.specs.Option.{ForSome};
+ghost use Rattle.std.specs.Io.KnownBytes.{Appends};
 ghost use Rattle.spoc_host.specs.Paths.{leads_out};
 
 use crate::path::{is_below_folders, leads_out, system_path};
 use spoc_base::Text;
 use spoc_io::IoFail;
 use std::alloc::Global;
-use std::fs::{File, Metadata, OpenFile, OpenOptions};
+use std::fs::{Metadata, OpenFile, OpenOptions};
 use std::io::{Read, Write};
 use std::os::unix::fs::MetadataExt;
 use std::rt::Files;
@@ -116,6 +117,13 @@ where
     Err(IoFail::Failed)
 }
 
+// Writes all the bytes.
+fn write_all<F: Write>(file: &mut F, bytes: &[u8]) -> Result<(), IoFail>
+    ensures whole { OnOk result (Appends (F.contents file.old) (F.contents file.new) bytes.now) }
+{
+    file.write_all(bytes).map_err(|e| fail_of(&e))
+}
+
 /// The bytes of a file of an opened folder, which are at most `limit`.
 ///
 /// `TooLarge` comes where more bytes than that were read. It fails where no plain file stands under
@@ -153,5 +161,5 @@ pub fn write_file<R: Files>(
 {
     let path = file_path(rt, alloc, opened, path)?;
     let mut file = open_to_write(rt, path.as_str())?;
-    file.write_all(bytes).map_err(|e| fail_of(&e))
+    write_all(&mut file, bytes)
 }
