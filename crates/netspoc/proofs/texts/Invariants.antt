@@ -1,0 +1,6 @@
+use Rattle.std.proofs.Common.{◌≡◌, map, take}
+use Rattle.std.specs.Prelude.{string_bytes}
+use Rattle.netspoc.proofs.texts.Given as goal
+
+abbrev pub invariant-loop-word : goal.invariant-loop-word
+invariant-loop-word l = l.texts.items ≡ map (λ word. string_bytes word) (take l.word-index l.words)
