@@ -60,6 +60,17 @@ fn folder(alloc: Global, text: &[u8], read_fails: &[u32]) -> Result<MemFolder, N
     MemFolder::new(alloc, files, 0, read_fails.to_vec(alloc)?, Vec::new(alloc))
 }
 
+// A folder with these files, by path and text.
+fn folder_of(alloc: Global, listed: &[(&str, &str)]) -> Result<MemFolder, NoMemory> {
+    let mut files = Vec::new(alloc);
+    for (path, text) in listed {
+        let path = Text::of(alloc, path.as_bytes())?;
+        let text = Text::of(alloc, text.as_bytes())?;
+        files.push((path, text))?;
+    }
+    MemFolder::new(alloc, files, 0, Vec::new(alloc), Vec::new(alloc))
+}
+
 // A folder without files.
 fn empty_folder(alloc: Global) -> Result<MemFolder, NoMemory> {
     let files = Vec::new(alloc);
@@ -244,5 +255,61 @@ fn other_words_are_refused(rt: HostRuntime) -> Result<(), Fail> {
     assert_eq!(rt; run(alloc, &words, &mut policy, &mut code, &mut out), 2);
     assert_eq!(rt; out.text(), b"usage\n".as_slice());
     assert_eq!(rt; code.held_len(), 0);
+    Ok(())
+}
+
+// A description in each place that has one, with bytes that are no tokens elsewhere.
+const DESCRIBED: &str = "\
+network:a = { description = a $ ; }
+ ip = 10.1.1.0/24; }
+router:r = { description = a $ ; }
+ interface:a; }
+group:g = description = a $ ; }
+ network:a;
+area:x = { description = a $ ; }
+ anchor = network:a; }
+any:y = { description = a $ ; }
+ link = network:a; }
+pathrestriction:p = description = a $ ; }
+ interface:r.a, interface:r.b;
+service:s = { description = a $ ; }
+ user = network:a; permit src = user; dst = network:a; prt = ip; }
+";
+
+// Runs `compile p c` over a folder with one file, or with two, and compares the one line of the
+// fault.
+fn compare_fault(
+    rt: &impl Abort,
+    alloc: Global,
+    listed: &[(&str, &str)],
+    line: &str,
+) -> Result<(), NoMemory> {
+    let wanted = Wanted {
+        status: 1,
+        text: line,
+        device: None,
+    };
+    let mut policy = folder_of(alloc, listed)?;
+    let mut code = target(alloc, &[])?;
+    compare(rt, alloc, &mut policy, &mut code, &wanted)
+}
+
+#[test]
+fn texts_outside_the_language_are_refused(rt: HostRuntime) -> Result<(), Fail> {
+    let alloc = rt.alloc();
+    compare_fault(&rt, alloc, &[("p", "$")], "fault Lex p 0\n")?;
+    let omitted = [("p", POLICY), ("a", "crypto:v = { }\n")];
+    compare_fault(&rt, alloc, &omitted, "fault LeftOut a 0 crypto:v\n")?;
+    let deep = "[[[[[[[[[[[[[[[[[";
+    compare_fault(&rt, alloc, &[("p", deep)], "fault Deep p 16\n")?;
+    compare_fault(&rt, alloc, &[("p", DESCRIBED)], "fault Form\n")?;
+    let cut = Wanted {
+        status: 1,
+        text: "fault Syntax p 210\n",
+        device: None,
+    };
+    let mut policy = folder(alloc, &POLICY.as_bytes()[..245], &[])?;
+    let mut code = target(alloc, &[])?;
+    compare(&rt, alloc, &mut policy, &mut code, &cut)?;
     Ok(())
 }
