@@ -1,1 +1,4 @@
 pub mod Ports
+pub mod Found
+pub mod Spelled
+pub mod Runs

@@ -4,6 +4,7 @@
 mod cursor;
 mod fail;
 mod forms;
+pub mod laws;
 mod words;
 
 pub use fail::ParseFail;
