@@ -208,7 +208,7 @@ inside_or d (Some x) = x
 pub inside : {A : Type 0} (x y : A) → ◌≡◌ {A = Option A} (Some x) (Some y) → x ≡ y
 inside x y h = ap (inside_or x) h
 
-one_behind : (i : ℕ) → i + 1 ≡ suc i
+pub one_behind : (i : ℕ) → i + 1 ≡ suc i
 one_behind i = omega arith
 
 cut_shape : (b : ℕ) (text : List ℕ) (at : List ℕ × List ℕ) → cut_at b text ≡ Some at → text ≡ at.0 ++ b ∷ at.1
@@ -250,7 +250,7 @@ port_sound = record { fronts = by }
 
 -- ---- texts over several words
 
-one_before : (n : ℕ) → 1 + n ≡ suc n
+pub one_before : (n : ℕ) → 1 + n ≡ suc n
 one_before n = omega arith
 
 -- the words in front, as tokens
