@@ -231,7 +231,7 @@ abbrev pub has_token : List Tok → Bool
 has_token [] = false
 has_token (t ∷ toks) = true
 
-size_of : {P : Phrase} → Tells P has_token true → (front : List Tok) → P front → 1 ≤ length front
+pub size_of : {P : Phrase} → Tells P has_token true → (front : List Tok) → P front → 1 ≤ length front
 size_of {P} t front p = by front (t.tells front [] p)
   where
     by : (front : List Tok) → has_token (front ++ []) ≡ true → 1 ≤ length front

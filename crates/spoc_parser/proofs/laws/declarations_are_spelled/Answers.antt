@@ -1,6 +1,5 @@
 use Rattle.std.specs.Prelude.{length}
 use Rattle.spoc_parser.proofs.Spelled.{decl_in_sound}
-use Rattle.spoc_parser.proofs.Taken.{decl_in_takes}
 use Rattle.spoc_parser.proofs.Runs.{file_sound}
 use Rattle.spoc_parser.proofs.laws.declarations_are_spelled.Goals as goal
 
