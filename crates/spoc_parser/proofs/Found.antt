@@ -1,5 +1,5 @@
 -- What readers read is spelled by the tokens that they take.
-use Rattle.std.proofs.Common.{◌≡◌, ◌+◌, ◌<◌, ℕ, zero, suc, Bool, true, false, not, ◌&&◌, List, [], ◌∷◌, ◌++◌, Option, Some, None, length, take, drop, map, get_or, cond, refl, sym, ap, subst, ◌∙◌, append_assoc, append-nil, inl, inr, arith}
+use Rattle.std.proofs.Common.{◌≡◌, ◌+◌, ℕ, zero, suc, Bool, true, false, ◌&&◌, List, [], ◌∷◌, ◌++◌, Option, Some, None, length, take, drop, map, get_or, cond, refl, sym, ap, subst, ◌∙◌, append_assoc, append-nil, inl, inr, arith}
 use Rattle.std.specs.Prelude.{codes, position, option_map, ◌==◌}
 use Rattle.std.specs.Str.{bytes_eq}
 use Rattle.std.proofs.lemmas.Slice.Eq.{bytes_eq-Decides}
@@ -13,7 +13,7 @@ use Rattle.spoc_lexer.specs.declared.token.TokenKind.TheVariants.{Word, Sign, De
 use Rattle.spoc_parser.specs.declared.forms.Form.{Form}
 use Rattle.spoc_parser.specs.Trees.{Lexeme, PortItem}
 use Rattle.spoc_parser.specs.Texts.{is_name, fits, begins_with, cut_at, are_joined, joined}
-use Rattle.spoc_parser.specs.Phrases.{Phrase, ◌then◌, ◌or◌, nothing, never, where_true, word_token, sign, key, a_word, named, at_port, a_text, spread, perhaps, many, further, listed, listed_open}
+use Rattle.spoc_parser.specs.Phrases.{Phrase, ◌then◌, ◌or◌, nothing, word_token, sign, key, a_word, named, at_port, a_text, spread, perhaps, many, further, listed, listed_open}
 use Rattle.spoc_parser.specs.Readers.{Reader, then_read, ◌>>=◌, done, past, at_sign, at_key, at_word, is_word, is_sign, is_text, step_where, read_sign, read_key, lexeme_of, read_word, read_text, lexeme_behind, read_named, port_at, port_of_cut, port_of, with_rest, read_port, word_count, words_of, texts_of, are_spread, read_spread, read_spread_or_none, read_unless, with_first, read_up_to, read_until, read_commas, read_further, read_listed, never_ends, list_ends}
 use Rattle.spoc_parser.specs.Grammar.{spread_or_none}
 
@@ -54,22 +54,30 @@ first_some a (Some r) ys rest h = (r, refl, (parts (a ∷ r.0) ys r.1 rest h).0,
 pub none_taken : {A : Type 0} (G : A → Phrase) (a b : A) (toks rest : List Tok) → G a [] → ◌≡◌ {A = Option (A × List Tok)} (Some (a, toks)) (Some (b, rest)) → Fronts (G b) toks rest
 none_taken G a b toks rest g h = ([], subst (λ z. G z []) (parts a b toks rest h).0 g, (parts a b toks rest h).1)
 
+-- the tokens of two phrases
+pub in_turn : (toks own left others behind rest : List Tok) → toks ≡ own ++ left → left ≡ others ++ behind → behind ≡ rest → toks ≡ (own ++ others) ++ rest
+in_turn toks own left others behind rest a b c = a ∙ ap (λ l. own ++ l) (b ∙ ap (λ l. others ++ l) c) ∙ sym (append_assoc own others rest)
+
 -- ---- one reader behind another
 
 pub bind_sound : {A B : Type 0} {P : A → Phrase} {G : B → Phrase} {read : Reader A} {f : A → Reader B} → Sound P read → ((x : A) → Sound (λ y. Behind (P x) (G y)) (f x)) → Sound G (read >>= f)
-bind_sound {read = read} {f = f} s t = record { fronts = λ toks rest y h.
-    let r = then_some (read toks) f (y, rest) h in
-    let front = s.fronts toks r.0.1 r.0.0 r.1 in
-    let more = (t r.0.0).fronts r.0.1 rest y r.2 in
-    (front.0 ++ more.0, more.1 front.0 front.1, front.2 ∙ ap (λ l. front.0 ++ l) more.2 ∙ sym (append_assoc front.0 more.0 rest)) }
+bind_sound {read = read} {f = f} s t = record {
+  fronts = λ toks rest y h.
+      let r = then_some (read toks) f (y, rest) h in
+      let front = s.fronts toks r.0.1 r.0.0 r.1 in
+      let more = (t r.0.0).fronts r.0.1 rest y r.2 in
+      (front.0 ++ more.0, more.1 front.0 front.1, in_turn toks front.0 r.0.1 more.0 rest rest front.2 more.2 refl);
+}
 
 -- the last reader, and what is made of the value
 pub last_sound : {A B : Type 0} {P : A → Phrase} {G : B → Phrase} {read : Reader A} (g : A → B) → Sound P read → ((x : A) (front : List Tok) → P x front → G (g x) front) → Sound G (read >>= λ x. done (g x))
-last_sound {G = G} {read = read} g s t = record { fronts = λ toks rest y h.
-    let r = then_some (read toks) (λ x. done (g x)) (y, rest) h in
-    let is = parts (g r.0.0) y r.0.1 rest r.2 in
-    let front = s.fronts toks r.0.1 r.0.0 r.1 in
-    (front.0, subst (λ z. G z front.0) is.0 (t r.0.0 front.0 front.1), front.2 ∙ ap (λ l. front.0 ++ l) is.1) }
+last_sound {G = G} {read = read} g s t = record {
+  fronts = λ toks rest y h.
+      let r = then_some (read toks) (λ x. done (g x)) (y, rest) h in
+      let is = parts (g r.0.0) y r.0.1 rest r.2 in
+      let front = s.fronts toks r.0.1 r.0.0 r.1 in
+      (front.0, subst (λ z. G z front.0) is.0 (t r.0.0 front.0 front.1), front.2 ∙ ap (λ l. front.0 ++ l) is.1);
+}
 
 -- a phrase that is the other too
 pub more_sound : {A : Type 0} {P G : A → Phrase} {read : Reader A} → Sound P read → ((x : A) (front : List Tok) → P x front → G x front) → Sound G read
@@ -95,7 +103,7 @@ past_sound {A} {P} {G} {test} read {other} shape s t = record { fronts = λ toks
     by toks rest y true is h =
         let first = shape toks is in
         let more = s.fronts (past toks) rest y h in
-        (first.0 ++ more.0, more.1 first.0 first.1, first.2 ∙ ap (λ l. first.0 ++ l) more.2 ∙ sym (append_assoc first.0 more.0 rest))
+        (first.0 ++ more.0, more.1 first.0 first.1, in_turn toks first.0 (past toks) more.0 rest rest first.2 more.2 refl)
     by toks rest y false is h = t.fronts toks rest y h
 
 -- a value of no tokens
@@ -150,10 +158,12 @@ step_some true toks rest x h = (refl, (parts tt x (past toks) rest h).1)
 step_some false toks rest x h = cc
 
 step_sound : {P : Phrase} (test : List Tok → Bool) → Shape P test → Sound (λ x. P) (λ toks. step_where (test toks) toks)
-step_sound test shape = record { fronts = λ toks rest x h.
-    let s = step_some (test toks) toks rest x h in
-    let first = shape toks s.0 in
-    (first.0, first.1, first.2 ∙ ap (λ l. first.0 ++ l) s.1) }
+step_sound test shape = record {
+  fronts = λ toks rest x h.
+      let s = step_some (test toks) toks rest x h in
+      let first = shape toks s.0 in
+      (first.0, first.1, first.2 ∙ ap (λ l. first.0 ++ l) s.1);
+}
 
 pub sign_sound : (text : List ℕ) → Sound (λ x. sign text) (read_sign text)
 sign_sound text = step_sound (at_sign text) (sign_shape text)
@@ -195,10 +205,11 @@ named_sound kind = record { fronts = by }
         let word = cond_some _ (Some (lexeme_behind (length kind) t, toks)) (x, rest) h in
         let both = and_true (is_word t.kind) _ word.0 in
         let more = and_true (begins_with kind t.text) _ both.1 in
-        let is = parts (lexeme_behind (length kind) t) x toks rest word.1 in
-        (record { kind = Word; text = kind ++ x.text; start = t.start } ∷ [],
+        let is = parts (lexeme_behind (length kind) t) x toks rest word.1 in (
+          record { kind = Word; text = kind ++ x.text; start = t.start } ∷ [],
           (t.start, subst (λ w. is_name w.text ≡ true) is.0 more.1, sym (ap (λ w. w.start) is.0), refl),
-          λ i. record { kind = kind_word t.kind both.0 i; text = (begins_shape kind t.text more.0 ∙ ap (λ w. kind ++ w.text) is.0) i; start = t.start } ∷ is.1 i)
+          λ i. record { kind = kind_word t.kind both.0 i; text = (begins_shape kind t.text more.0 ∙ ap (λ w. kind ++ w.text) is.0) i; start = t.start } ∷ is.1 i,
+        )
 
 -- a text around a byte
 abbrev inside_or : {A : Type 0} → A → Option A → A
@@ -242,11 +253,18 @@ port_sound = record { fronts = by }
         let both = and_true (is_word t.kind) (begins_with (codes "interface:") t.text) word.0 in
         let more = rest_some (port_of (lexeme_behind 10 t)) toks rest x word.1 in
         let cut = port_cut (t.start + 10) (cut_at 46 (drop 10 t.text)) x more.0 in
-        let text = begins_shape (codes "interface:") t.text both.1 ∙ ap (λ l. codes "interface:" ++ l) (cut_shape 46 (drop 10 t.text) cut.0 cut.1) in
-        (record { kind = Word; text = codes "interface:" ++ (x.router.text ++ 46 ∷ x.net.text); start = t.start } ∷ [],
-          (t.start, subst (λ p. is_name p.router.text ≡ true) cut.4 cut.2, subst (λ p. is_name p.net.text ≡ true) cut.4 cut.3,
-            sym (ap (λ p. p.router.start) cut.4), sym (ap (λ p. p.net.start) cut.4) ∙ ap (λ p. t.start + 10 + length p.router.text + 1) cut.4, refl),
-          λ i. record { kind = kind_word t.kind both.0 i; text = (text ∙ ap (λ p. codes "interface:" ++ (p.router.text ++ 46 ∷ p.net.text)) cut.4) i; start = t.start } ∷ more.1 i)
+        let text = begins_shape (codes "interface:") t.text both.1 ∙ ap (λ l. codes "interface:" ++ l) (cut_shape 46 (drop 10 t.text) cut.0 cut.1) in (
+          record { kind = Word; text = codes "interface:" ++ (x.router.text ++ 46 ∷ x.net.text); start = t.start } ∷ [],
+          (
+            t.start,
+            subst (λ p. is_name p.router.text ≡ true) cut.4 cut.2,
+            subst (λ p. is_name p.net.text ≡ true) cut.4 cut.3,
+            sym (ap (λ p. p.router.start) cut.4),
+            sym (ap (λ p. p.net.start) cut.4) ∙ ap (λ p. t.start + 10 + length p.router.text + 1) cut.4,
+            refl,
+          ),
+          λ i. record { kind = kind_word t.kind both.0 i; text = (text ∙ ap (λ p. codes "interface:" ++ (p.router.text ++ 46 ∷ p.net.text)) cut.4) i; start = t.start } ∷ more.1 i,
+        )
 
 -- ---- texts over several words
 
@@ -267,12 +285,16 @@ words_shape (t ∷ toks) = by (words_shape toks) t.kind refl
     by again Description is = refl
 
 pub spread_sound : (form : Form) → Sound (spread form) (read_spread form)
-spread_sound form = record { fronts = λ toks rest x h.
-    let read = cond_some (are_spread form (words_of toks)) (Some (words_of toks, drop (word_count toks) toks)) (x, rest) h in
-    let is = parts (words_of toks) x (drop (word_count toks) toks) rest read.1 in
-    let both = and_true (are_joined (texts_of (words_of toks))) (fits form (joined (texts_of (words_of toks)))) read.0 in
-    (map word_token x, (subst (λ w. are_joined (texts_of w) ≡ true) is.0 both.0, subst (λ w. fits form (joined (texts_of w)) ≡ true) is.0 both.1, refl),
-      words_shape toks ∙ λ i. map word_token (is.0 i) ++ is.1 i) }
+spread_sound form = record {
+  fronts = λ toks rest x h.
+      let read = cond_some (are_spread form (words_of toks)) (Some (words_of toks, drop (word_count toks) toks)) (x, rest) h in
+      let is = parts (words_of toks) x (drop (word_count toks) toks) rest read.1 in
+      let both = and_true (are_joined (texts_of (words_of toks))) (fits form (joined (texts_of (words_of toks)))) read.0 in (
+        map word_token x,
+        (subst (λ w. are_joined (texts_of w) ≡ true) is.0 both.0, subst (λ w. fits form (joined (texts_of w)) ≡ true) is.0 both.1, refl),
+        words_shape toks ∙ λ i. map word_token (is.0 i) ++ is.1 i,
+      );
+}
 
 pub spread_or_none_sound : (form : Form) → Sound (spread_or_none form) (read_spread_or_none form)
 spread_or_none_sound form = if_sound at_word (more_sound (spread_sound form) (λ x front p. inr p)) (done_sound [] (inl refl))
@@ -293,9 +315,11 @@ up_to_sound {A} {spells} ends {read} s (suc n) = record { fronts = λ toks rest 
         let one = then_some (read toks) _ (xs, rest) h in
         let more = first_some one.0.0 (read_up_to ends read n one.0.1) xs rest one.2 in
         let own = s.fronts toks one.0.1 one.0.0 one.1 in
-        let others = again.fronts one.0.1 more.0.1 more.0.0 more.1 in
-        (own.0 ++ others.0, subst (λ z. many spells z (own.0 ++ others.0)) more.2 (own.0, others.0, own.1, others.1, refl),
-          own.2 ∙ ap (λ l. own.0 ++ l) (others.2 ∙ ap (λ l. others.0 ++ l) more.3) ∙ sym (append_assoc own.0 others.0 rest))
+        let others = again.fronts one.0.1 more.0.1 more.0.0 more.1 in (
+          own.0 ++ others.0,
+          subst (λ z. many spells z (own.0 ++ others.0)) more.2 (own.0, others.0, own.1, others.1, refl),
+          in_turn toks own.0 one.0.1 others.0 more.0.1 rest own.2 others.2 more.3,
+        )
 
 pub until_sound : {A : Type 0} {spells : A → Phrase} (ends : List Tok → Bool) {read : Reader A} → Sound spells read → Sound (many spells) (read_until ends read)
 until_sound ends s = record { fronts = λ toks rest xs h. (up_to_sound ends s (length toks)).fronts toks rest xs h }
@@ -310,8 +334,13 @@ never_by = (refl, λ front toks p e. cc)
 pub ends_by : EndsBy list_ends (nothing or sign (codes ","))
 ends_by = (inl refl, λ front toks p e. inr p)
 
-glue : (a b c d e : List Tok) → a ++ (b ++ ((c ++ d) ++ e)) ≡ (((a ++ b) ++ c) ++ d) ++ e
-glue a b c d e = simp append_assoc refl
+-- one item, and the others behind it
+more_items : {A : Type 0} (spells : A → Phrase) (T : Phrase) (x : A) (xs : List A) (comma own others : List Tok) → sign (codes ",") comma → spells x own → (further spells xs then T) others → (further spells (x ∷ xs) then T) (comma ++ (own ++ others))
+more_items spells T x xs comma own others c o p =
+    ((comma ++ own) ++ p.0, p.1, (comma ++ own, p.0, (comma, own, c, o, refl), p.2, refl), p.3, ap (λ l. comma ++ (own ++ l)) p.4 ∙ simp append_assoc refl)
+
+first_item : {A : Type 0} (spells : A → Phrase) (T : Phrase) (x : A) (xs : List A) (own others : List Tok) → spells x own → (further spells xs then T) others → (listed spells (x ∷ xs) then T) (own ++ others)
+first_item spells T x xs own others o p = (own ++ p.0, p.1, (own, p.0, o, p.2, refl), p.3, ap (λ l. own ++ l) p.4 ∙ sym (append_assoc own p.0 p.1))
 
 pub commas_sound : {A : Type 0} {spells : A → Phrase} (ends : List Tok → Bool) (T : Phrase) {read : Reader A} → EndsBy ends T → Sound spells read → (n : ℕ) → Sound (λ xs. further spells xs then T) (read_commas ends read n)
 commas_sound ends T tail s zero = if_sound (at_sign (codes ",")) refuse_sound (done_sound [] ([], [], refl, tail.0, refl))
@@ -330,24 +359,24 @@ commas_sound {A} {spells} ends T {read} tail s (suc n) = record { fronts = λ to
         let one = then_some (read (past toks)) _ (xs, rest) h in
         let more = first_some one.0.0 (read_commas ends read n one.0.1) xs rest one.2 in
         let own = s.fronts (past toks) one.0.1 one.0.0 one.1 in
-        let others = again.fronts one.0.1 more.0.1 more.0.0 more.1 in
-        let items = others.1.0 in
-        let end = others.1.1 in
-        (((comma.0 ++ own.0) ++ items) ++ end,
-          subst (λ z. (further spells z then T) (((comma.0 ++ own.0) ++ items) ++ end)) more.2 ((comma.0 ++ own.0) ++ items, end, (comma.0 ++ own.0, items, (comma.0, own.0, comma.1, own.1, refl), others.1.2, refl), others.1.3, refl),
-          comma.2 ∙ ap (λ l. comma.0 ++ l) (own.2 ∙ ap (λ l. own.0 ++ l) (others.2 ∙ λ i. others.1.4 i ++ more.3 i)) ∙ glue comma.0 own.0 items end rest)
+        let others = again.fronts one.0.1 more.0.1 more.0.0 more.1 in (
+          comma.0 ++ (own.0 ++ others.0),
+          subst (λ z. (further spells z then T) (comma.0 ++ (own.0 ++ others.0))) more.2 (more_items spells T one.0.0 more.0.0 comma.0 own.0 others.0 comma.1 own.1 others.1),
+          in_turn toks comma.0 (past toks) (own.0 ++ others.0) rest rest comma.2 (in_turn (past toks) own.0 one.0.1 others.0 more.0.1 rest own.2 others.2 more.3) refl,
+        )
 
 pub listed_by_sound : {A : Type 0} {spells : A → Phrase} (ends : List Tok → Bool) (T : Phrase) {read : Reader A} → EndsBy ends T → Sound spells read → Sound (λ xs. listed spells xs then T) (read_listed ends read)
-listed_by_sound {A} {spells} ends T {read} tail s = record { fronts = λ toks rest xs h.
-    let one = then_some (read toks) _ (xs, rest) h in
-    let more = first_some one.0.0 (read_further ends read one.0.1) xs rest one.2 in
-    let own = s.fronts toks one.0.1 one.0.0 one.1 in
-    let others = (commas_sound ends T tail s (length one.0.1)).fronts one.0.1 more.0.1 more.0.0 more.1 in
-    let items = others.1.0 in
-    let end = others.1.1 in
-    ((own.0 ++ items) ++ end,
-      subst (λ z. (listed spells z then T) ((own.0 ++ items) ++ end)) more.2 (own.0 ++ items, end, (own.0, items, own.1, others.1.2, refl), others.1.3, refl),
-      own.2 ∙ ap (λ l. own.0 ++ l) (others.2 ∙ λ i. others.1.4 i ++ more.3 i) ∙ glue [] own.0 items end rest) }
+listed_by_sound {A} {spells} ends T {read} tail s = record {
+  fronts = λ toks rest xs h.
+      let one = then_some (read toks) _ (xs, rest) h in
+      let more = first_some one.0.0 (read_further ends read one.0.1) xs rest one.2 in
+      let own = s.fronts toks one.0.1 one.0.0 one.1 in
+      let others = (commas_sound ends T tail s (length one.0.1)).fronts one.0.1 more.0.1 more.0.0 more.1 in (
+        own.0 ++ others.0,
+        subst (λ z. (listed spells z then T) (own.0 ++ others.0)) more.2 (first_item spells T one.0.0 more.0.0 own.0 others.0 own.1 others.1),
+        in_turn toks own.0 one.0.1 others.0 more.0.1 rest own.2 others.2 more.3,
+      );
+}
 
 -- nothing behind
 no_more : {P : Phrase} (front : List Tok) → (P then nothing) front → P front
@@ -360,6 +389,8 @@ pub listed_open_sound : {A : Type 0} {spells : A → Phrase} {read : Reader A} �
 listed_open_sound s = listed_by_sound list_ends (nothing or sign (codes ",")) ends_by s
 
 pub further_sound : {A : Type 0} {spells : A → Phrase} {read : Reader A} → Sound spells read → Sound (further spells) (read_further never_ends read)
-further_sound {spells = spells} s = record { fronts = λ toks rest xs h.
-    let found = (commas_sound never_ends nothing never_by s (length toks)).fronts toks rest xs h in
-    (found.0, no_more {P = further spells xs} found.0 found.1, found.2) }
+further_sound {spells = spells} s = record {
+  fronts = λ toks rest xs h.
+      let found = (commas_sound never_ends nothing never_by s (length toks)).fronts toks rest xs h in
+      (found.0, no_more {P = further spells xs} found.0 found.1, found.2);
+}

@@ -1,5 +1,5 @@
 -- What is spelled is read, whatever follows where it may.
-use Rattle.std.proofs.Common.{◌≡◌, ◌+◌, ◌<◌, ◌≤◌, ℕ, zero, suc, Bool, true, false, not, ◌&&◌, ◌||◌, List, [], ◌∷◌, ◌++◌, Option, Some, None, length, take, drop, map, cond, true≢false, refl, sym, ap, subst, ◌∙◌, append_assoc, append-nil, inl, inr, arith}
+use Rattle.std.proofs.Common.{◌≡◌, ◌+◌, ◌≤◌, ℕ, zero, suc, Bool, true, false, not, ◌&&◌, List, [], ◌∷◌, ◌++◌, Option, Some, None, length, take, drop, map, cond, true≢false, refl, sym, ap, subst, ◌∙◌, append_assoc, append-nil, inl, inr, arith}
 use Rattle.std.specs.Prelude.{codes, ◌==◌, nat_lt, option_map}
 use Rattle.std.specs.Str.{bytes_eq}
 use Rattle.std.specs.List.{list_all, position_or_len}
@@ -8,13 +8,12 @@ use Rattle.std.proofs.lemmas.Bool.{eqb-true, lt-ltb}
 use Rattle.std.proofs.lemmas.List.{length-append}
 use Rattle.std.proofs.Math.Seq.{take-append_seam, drop-append_seam, drop-append-add}
 use Rattle.spoc_lexer.specs.Tokens.{Tok}
-use Rattle.spoc_lexer.specs.declared.token.TokenKind.{TokenKind}
-use Rattle.spoc_lexer.specs.declared.token.TokenKind.TheVariants.{Word, Sign, Description}
+use Rattle.spoc_lexer.specs.declared.token.TokenKind.TheVariants.{Word, Sign}
 use Rattle.spoc_parser.specs.declared.forms.Form.{Form}
 use Rattle.spoc_parser.specs.Trees.{Lexeme, PortItem}
-use Rattle.spoc_parser.specs.Texts.{is_empty, is_name_byte, is_name, fits, begins_with, cut_at, are_joined, joined}
-use Rattle.spoc_parser.specs.Phrases.{Phrase, ◌then◌, ◌or◌, nothing, never, where_true, word_token, sign, key, a_word, named, at_port, a_text, spread, perhaps, many, further, listed, listed_open}
-use Rattle.spoc_parser.specs.Readers.{Reader, then_read, ◌>>=◌, done, past, at_sign, at_key, at_word, is_word, is_sign, is_text, step_where, read_sign, read_key, lexeme_of, read_word, read_text, lexeme_behind, read_named, port_at, port_of_cut, port_of, with_rest, read_port, word_count, words_of, texts_of, are_spread, read_spread, read_spread_or_none, read_unless, with_first, read_up_to, read_until, read_commas, read_further, read_listed, never_ends, list_ends}
+use Rattle.spoc_parser.specs.Texts.{is_empty, is_name_byte, is_name, fits, cut_at}
+use Rattle.spoc_parser.specs.Phrases.{Phrase, ◌then◌, ◌or◌, nothing, where_true, word_token, sign, key, a_word, named, at_port, a_text, spread, perhaps, many, further, listed, listed_open}
+use Rattle.spoc_parser.specs.Readers.{Reader, then_read, ◌>>=◌, done, past, at_sign, at_word, step_where, read_sign, read_key, lexeme_of, read_word, read_text, lexeme_behind, read_named, port_at, port_of_cut, with_rest, read_port, word_count, words_of, are_spread, read_spread, read_spread_or_none, read_unless, with_first, read_up_to, read_until, read_commas, read_further, read_listed, never_ends, list_ends}
 use Rattle.spoc_parser.specs.Grammar.{spread_or_none}
 use Rattle.spoc_parser.proofs.Found.{and_true, one_before, sign_shape}
 
@@ -27,8 +26,8 @@ abbrev pub Always : List Tok → Type 0
 Always rest = Unit {0}
 
 -- where the test gives this
-abbrev pub Gives : (List Tok → Bool) → Bool → List Tok → Type 0
-Gives test b rest = test rest ≡ b
+abbrev pub Where : (List Tok → Bool) → Bool → List Tok → Type 0
+Where test b rest = test rest ≡ b
 
 -- where such a phrase begins, the test gives this
 pub record Tells (P : Phrase) (test : List Tok → Bool) (b : Bool) : Type 0 where
@@ -80,25 +79,39 @@ word_tells form word {test = test} t = record { tells = λ front rest p. ap (λ 
 pub named_tells : (kind : List ℕ) (name : Lexeme) {test : List Tok → Bool} {b : Bool} → ((text : List ℕ) (start : ℕ) (rest : List Tok) → is_name text ≡ true → test (word_at start (kind ++ text) ∷ rest) ≡ b) → Tells (named kind name) test b
 named_tells kind name {test = test} t = record { tells = λ front rest p. ap (λ l. test (l ++ rest)) p.3 ∙ t name.text p.0 rest p.1 }
 
+-- the same, where something stands behind
+pub by_key : {text : List ℕ} {P : Phrase} {test : List Tok → Bool} {b : Bool} → ((start : ℕ) (rest : List Tok) → test (word_at start text ∷ rest) ≡ b) → Tells (key text then P) test b
+by_key t = then_tells (key_tells t)
+
+pub by_sign : {text : List ℕ} {P : Phrase} {test : List Tok → Bool} {b : Bool} → ((start : ℕ) (rest : List Tok) → test (sign_at start text ∷ rest) ≡ b) → Tells (sign text then P) test b
+by_sign t = then_tells (sign_tells t)
+
+pub by_name : (kind : List ℕ) (name : Lexeme) {P : Phrase} {test : List Tok → Bool} {b : Bool} → ((text : List ℕ) (start : ℕ) (rest : List Tok) → is_name text ≡ true → test (word_at start (kind ++ text) ∷ rest) ≡ b) → Tells (named kind name then P) test b
+by_name kind name t = then_tells (named_tells kind name t)
+
 pub port_tells : (place : PortItem) {test : List Tok → Bool} {b : Bool} → ((text : List ℕ) (start : ℕ) (rest : List Tok) → test (word_at start (codes "interface:" ++ text) ∷ rest) ≡ b) → Tells (at_port place) test b
 port_tells place {test = test} t = record { tells = λ front rest p. ap (λ l. test (l ++ rest)) p.5 ∙ t (place.router.text ++ 46 ∷ place.net.text) p.0 rest }
 
 -- ---- one reader behind another
 
 -- the first phrase is read where the second begins
-pub follow_takes : {A B : Type 0} {P Q : Phrase} {F : List Tok → Type 0} {test : List Tok → Bool} {b : Bool} {read : Reader A} (f : A → Reader B) {x : A} {y : B} → Takes P (Gives test b) read x → Tells Q test b → Takes Q F (f x) y → Takes (P then Q) F (read >>= f) y
-follow_takes {read = read} f {x = x} s t u = record { takes = λ front rest p q.
-    ap (λ l. then_read (read (l ++ rest)) f) p.4
-    ∙ ap (λ l. then_read (read l) f) (append_assoc p.0 p.1 rest)
-    ∙ ap (λ o. then_read o f) (s.takes p.0 (p.1 ++ rest) p.2 (t.tells p.1 rest p.3))
-    ∙ u.takes p.1 rest p.3 q }
+pub follow_takes : {A B : Type 0} {P Q : Phrase} {F : List Tok → Type 0} {test : List Tok → Bool} {b : Bool} {read : Reader A} (f : A → Reader B) {x : A} {y : B} → Takes P (Where test b) read x → Tells Q test b → Takes Q F (f x) y → Takes (P then Q) F (read >>= f) y
+follow_takes {read = read} f {x = x} s t u = record {
+  takes = λ front rest p q.
+      ap (λ l. then_read (read (l ++ rest)) f) p.4
+      ∙ ap (λ l. then_read (read l) f) (append_assoc p.0 p.1 rest)
+      ∙ ap (λ o. then_read o f) (s.takes p.0 (p.1 ++ rest) p.2 (t.tells p.1 rest p.3))
+      ∙ u.takes p.1 rest p.3 q;
+}
 
 pub then_takes : {A B : Type 0} {P Q : Phrase} {F : List Tok → Type 0} {read : Reader A} (f : A → Reader B) {x : A} {y : B} → Takes P Always read x → Takes Q F (f x) y → Takes (P then Q) F (read >>= f) y
-then_takes {read = read} f {x = x} s u = record { takes = λ front rest p q.
-    ap (λ l. then_read (read (l ++ rest)) f) p.4
-    ∙ ap (λ l. then_read (read l) f) (append_assoc p.0 p.1 rest)
-    ∙ ap (λ o. then_read o f) (s.takes p.0 (p.1 ++ rest) p.2 tt)
-    ∙ u.takes p.1 rest p.3 q }
+then_takes {read = read} f {x = x} s u = record {
+  takes = λ front rest p q.
+      ap (λ l. then_read (read (l ++ rest)) f) p.4
+      ∙ ap (λ l. then_read (read l) f) (append_assoc p.0 p.1 rest)
+      ∙ ap (λ o. then_read o f) (s.takes p.0 (p.1 ++ rest) p.2 tt)
+      ∙ u.takes p.1 rest p.3 q;
+}
 
 -- the last reader, and what is made of the value
 pub last_takes : {A B : Type 0} {P : Phrase} {F : List Tok → Type 0} {read : Reader A} (f : A → Reader B) {x : A} {y : B} → Takes P F read x → ((toks : List Tok) → f x toks ≡ Some (y, toks)) → Takes P F (read >>= f) y
@@ -148,11 +161,13 @@ pub word_takes : (form : Form) (word : Lexeme) → Takes (a_word form word) Alwa
 word_takes form word = record { takes = λ front rest p f. ap (λ l. read_word form (l ++ rest)) p.1 ∙ ap (λ b. cond b (Some (word, rest)) None) p.0 }
 
 pub named_takes : (kind : List ℕ) (name : Lexeme) → Takes (named kind name) Always (read_named kind) name
-named_takes kind name = record { takes = λ front rest p f.
-    ap (λ l. read_named kind (l ++ rest)) p.3
-    ∙ ap (λ b. cond b (Some (lexeme_behind (length kind) (word_at p.0 (kind ++ name.text)), rest)) None)
-        ((λ i. bytes_eq (take-append_seam kind name.text i) kind && is_name (drop-append_seam kind name.text i)) ∙ λ i. same_text kind i && p.1 i)
-    ∙ λ i. Some (record { start = sym p.2 i; text = drop-append_seam kind name.text i }, rest) }
+named_takes kind name = record {
+  takes = λ front rest p f.
+      ap (λ l. read_named kind (l ++ rest)) p.3
+      ∙ ap (λ b. cond b (Some (lexeme_behind (length kind) (word_at p.0 (kind ++ name.text)), rest)) None)
+      ((λ i. bytes_eq (take-append_seam kind name.text i) kind && is_name (drop-append_seam kind name.text i)) ∙ λ i. same_text kind i && p.1 i)
+      ∙ λ i. Some (record { start = sym p.2 i; text = drop-append_seam kind name.text i }, rest);
+}
 
 -- ---- the two names of an interface
 
@@ -179,15 +194,18 @@ cut_is router rest h =
   where
     within : nat_lt (length router) (length (router ++ 46 ∷ rest)) ≡ true
     within = lt-ltb (length router) (length (router ++ 46 ∷ rest)) (omega (arith, length-append router (46 ∷ rest)))
+
     behind : drop (length router + 1) (router ++ 46 ∷ rest) ≡ rest
     behind = drop-append-add router (46 ∷ rest) 1
 
 pub port_takes : (place : PortItem) → Takes (at_port place) Always read_port place
-port_takes place = record { takes = λ front rest p f.
-    ap (λ l. read_port (l ++ rest)) p.5
-    ∙ ap (λ o. with_rest (port_of_cut (p.0 + 10) o) rest) (cut_is place.router.text place.net.text p.1)
-    ∙ ap (λ b. with_rest (cond b (Some (port_at (p.0 + 10) place.router.text place.net.text)) None) rest) (λ i. p.1 i && p.2 i)
-    ∙ λ i. Some (record { router = record { start = sym p.3 i; text = place.router.text }; net = record { start = sym p.4 i; text = place.net.text } }, rest) }
+port_takes place = record {
+  takes = λ front rest p f.
+      ap (λ l. read_port (l ++ rest)) p.5
+      ∙ ap (λ o. with_rest (port_of_cut (p.0 + 10) o) rest) (cut_is place.router.text place.net.text p.1)
+      ∙ ap (λ b. with_rest (cond b (Some (port_at (p.0 + 10) place.router.text place.net.text)) None) rest) (λ i. p.1 i && p.2 i)
+      ∙ λ i. Some (record { router = record { start = sym p.3 i; text = place.router.text }; net = record { start = sym p.4 i; text = place.net.text } }, rest);
+}
 
 -- ---- texts over several words
 
@@ -203,17 +221,19 @@ lexemes_are : (words : List Lexeme) → map lexeme_of (map word_token words) ≡
 lexemes_are [] = refl
 lexemes_are (w ∷ ws) = ap (λ l. w ∷ l) (lexemes_are ws)
 
-pub spread_takes : (form : Form) (words : List Lexeme) → Takes (spread form words) (Gives at_word false) (read_spread form) words
-spread_takes form words = record { takes = λ front rest p q.
-    let count = count_is words rest q in
-    let front_is : take (word_count (map word_token words ++ rest)) (map word_token words ++ rest) ≡ map word_token words = ap (λ n. take n (map word_token words ++ rest)) count ∙ take-append_seam (map word_token words) rest in
-    let read_is : words_of (map word_token words ++ rest) ≡ words = ap (map lexeme_of) front_is ∙ lexemes_are words in
-    let left_is : drop (word_count (map word_token words ++ rest)) (map word_token words ++ rest) ≡ rest = ap (λ n. drop n (map word_token words ++ rest)) count ∙ drop-append_seam (map word_token words) rest in
-    ap (λ l. read_spread form (l ++ rest)) p.2
-    ∙ (λ i. cond (are_spread form (read_is i)) (Some (read_is i, left_is i)) None)
-    ∙ ap (λ b. cond b (Some (words, rest)) None) (λ i. p.0 i && p.1 i) }
+pub spread_takes : (form : Form) (words : List Lexeme) → Takes (spread form words) (Where at_word false) (read_spread form) words
+spread_takes form words = record {
+  takes = λ front rest p q.
+      let count = count_is words rest q in
+      let front_is : take (word_count (map word_token words ++ rest)) (map word_token words ++ rest) ≡ map word_token words = ap (λ n. take n (map word_token words ++ rest)) count ∙ take-append_seam (map word_token words) rest in
+      let read_is : words_of (map word_token words ++ rest) ≡ words = ap (map lexeme_of) front_is ∙ lexemes_are words in
+      let left_is : drop (word_count (map word_token words ++ rest)) (map word_token words ++ rest) ≡ rest = ap (λ n. drop n (map word_token words ++ rest)) count ∙ drop-append_seam (map word_token words) rest in
+      ap (λ l. read_spread form (l ++ rest)) p.2
+      ∙ (λ i. cond (are_spread form (read_is i)) (Some (read_is i, left_is i)) None)
+      ∙ ap (λ b. cond b (Some (words, rest)) None) (λ i. p.0 i && p.1 i);
+}
 
-pub spread_or_none_takes : (form : Form) → fits form [] ≡ false → (words : List Lexeme) → Takes (spread_or_none form words) (Gives at_word false) (read_spread_or_none form) words
+pub spread_or_none_takes : (form : Form) → fits form [] ≡ false → (words : List Lexeme) → Takes (spread_or_none form words) (Where at_word false) (read_spread_or_none form) words
 spread_or_none_takes form empty [] = record { takes = by }
   where
     by : (front rest : List Tok) → spread_or_none form [] front → at_word rest ≡ false → read_spread_or_none form (front ++ rest) ≡ Some ([], rest)
@@ -223,7 +243,7 @@ spread_or_none_takes form empty (w ∷ ws) = or_takes (absent_takes (λ front p.
 
 -- ---- none, one or several
 
-pub unless_takes : {A : Type 0} {spells : A → Phrase} {G : List Tok → Type 0} (ends : List Tok → Bool) {read : Reader A} → ((x : A) → Takes (spells x) G read x) → ((x : A) → Tells (spells x) ends false) → ((rest : List Tok) → ends rest ≡ true → G rest) → (o : Option A) → Takes (perhaps spells o) (Gives ends true) (read_unless ends read) o
+pub unless_takes : {A : Type 0} {spells : A → Phrase} {G : List Tok → Type 0} (ends : List Tok → Bool) {read : Reader A} → ((x : A) → Takes (spells x) G read x) → ((x : A) → Tells (spells x) ends false) → ((rest : List Tok) → ends rest ≡ true → G rest) → (o : Option A) → Takes (perhaps spells o) (Where ends true) (read_unless ends read) o
 unless_takes ends {read} reads goes ok None = record { takes = λ front rest p q. ap (λ l. read_unless ends read (l ++ rest)) p ∙ ap (λ b. cond b (Some (None, rest)) (then_read (read rest) (λ x. done (Some x)))) q }
 unless_takes ends {read} reads goes ok (Some x) = no_takes ends (λ toks. Some (None, toks)) (goes x) (last_takes (λ x. done (Some x)) (less_takes (reads x) (λ front p. p) ok) (λ toks. refl))
 
@@ -249,7 +269,7 @@ module _ {A : Type 0} (spells : A → Phrase) (ends : List Tok → Bool) (read :
       ∙ ap (λ o. then_read o (λ x rest. with_first x (read_up_to ends read n rest))) ((reads x).takes p.0 (p.1 ++ rest) p.2 tt)
       ∙ ap (with_first x) (up_to_takes xs n p.1 rest p.3 q (omega (arith, ap length p.4, length-append p.0 p.1, size_of (sizes x) p.0 p.2, fuel)))
 
-  pub until_takes : (xs : List A) → Takes (many spells xs) (Gives ends true) (read_until ends read) xs
+  pub until_takes : (xs : List A) → Takes (many spells xs) (Where ends true) (read_until ends read) xs
   until_takes xs = record { takes = λ front rest p q. up_to_takes xs (length (front ++ rest)) front rest p q (omega (arith, length-append front rest)) }
 
 -- ---- lists with commas
@@ -283,18 +303,22 @@ module _ {A : Type 0} (spells : A → Phrase) (ends : List Tok → Bool) (T : Ph
   fits_all items tail rest = omega (arith, length-append (items ++ tail) rest, length-append items tail)
 
   pub further_by_takes : (xs : List A) → Takes (further spells xs then T) F (read_further ends read) xs
-  further_by_takes xs = record { takes = λ front rest p f.
-      ap (λ l. read_further ends read (l ++ rest)) p.4 ∙ commas_takes xs (length ((p.0 ++ p.1) ++ rest)) p.0 p.1 rest p.2 p.3 f (fits_all p.0 p.1 rest) }
+  further_by_takes xs = record {
+    takes = λ front rest p f.
+        ap (λ l. read_further ends read (l ++ rest)) p.4 ∙ commas_takes xs (length ((p.0 ++ p.1) ++ rest)) p.0 p.1 rest p.2 p.3 f (fits_all p.0 p.1 rest);
+  }
 
   pub listed_by_takes : (xs : List A) → Takes (listed spells xs then T) F (read_listed ends read) xs
   listed_by_takes [] = absent_takes (λ front p. p.2)
-  listed_by_takes (x ∷ xs) = record { takes = λ front rest p f.
-      let own = p.2.0 in
-      let items = p.2.1 in
-      ap (λ l. read_listed ends read (l ++ rest)) (p.4 ∙ ap (λ l. l ++ p.1) p.2.4)
-      ∙ ap (λ l. read_listed ends read l) (glue own items p.1 rest)
-      ∙ ap (λ o. then_read o (λ x rest. with_first x (read_further ends read rest))) ((reads x).takes own ((items ++ p.1) ++ rest) p.2.2 (more_ok xs items p.1 rest p.2.3 p.3 f))
-      ∙ ap (with_first x) (commas_takes xs (length ((items ++ p.1) ++ rest)) items p.1 rest p.2.3 p.3 f (fits_all items p.1 rest)) }
+  listed_by_takes (x ∷ xs) = record {
+    takes = λ front rest p f.
+        let own = p.2.0 in
+        let items = p.2.1 in
+        ap (λ l. read_listed ends read (l ++ rest)) (p.4 ∙ ap (λ l. l ++ p.1) p.2.4)
+        ∙ ap (λ l. read_listed ends read l) (glue own items p.1 rest)
+        ∙ ap (λ o. then_read o (λ x rest. with_first x (read_further ends read rest))) ((reads x).takes own ((items ++ p.1) ++ rest) p.2.2 (more_ok xs items p.1 rest p.2.3 p.3 f))
+        ∙ ap (with_first x) (commas_takes xs (length ((items ++ p.1) ++ rest)) items p.1 rest p.2.3 p.3 f (fits_all items p.1 rest));
+  }
 
 no_comma : {A : Type 0} (ends : List Tok → Bool) (read : Reader A) (n : ℕ) (rest : List Tok) → at_sign (codes ",") rest ≡ false → read_commas ends read n rest ≡ Some ([], rest)
 no_comma ends read zero rest h = ap (λ b. cond b None (Some ([], rest))) h
@@ -315,20 +339,20 @@ module _ {A : Type 0} (spells : A → Phrase) (read : Reader A) (reads : (x : A)
   no_more_closes : (n : ℕ) (tail rest : List Tok) → nothing tail → at_sign (codes ",") rest ≡ false → length tail ≤ n → read_commas never_ends read n (tail ++ rest) ≡ Some ([], rest)
   no_more_closes n tail rest t f fuel = ap (λ l. read_commas never_ends read n (l ++ rest)) t ∙ no_comma never_ends read n rest f
 
-  pub further_takes : (xs : List A) → Takes (further spells xs) (Gives (at_sign (codes ",")) false) (read_further never_ends read) xs
-  further_takes xs = less_takes (further_by_takes spells never_ends nothing (Gives (at_sign (codes ",")) false) Always read reads (λ x. record { tells = λ front rest p. refl }) (λ toks h. tt) (λ rest f. tt) (λ tail t. inl t) no_more_closes xs)
+  pub further_takes : (xs : List A) → Takes (further spells xs) (Where (at_sign (codes ",")) false) (read_further never_ends read) xs
+  further_takes xs = less_takes (further_by_takes spells never_ends nothing (Where (at_sign (codes ",")) false) Always read reads (λ x. record { tells = λ front rest p. refl }) (λ toks h. tt) (λ rest f. tt) (λ tail t. inl t) no_more_closes xs)
       (λ front p. (front, [], p, refl, sym (append-nil front))) (λ rest f. f)
 
-  pub listed_takes : (xs : List A) → Takes (listed spells xs) (Gives (at_sign (codes ",")) false) (read_listed never_ends read) xs
-  listed_takes xs = less_takes (listed_by_takes spells never_ends nothing (Gives (at_sign (codes ",")) false) Always read reads (λ x. record { tells = λ front rest p. refl }) (λ toks h. tt) (λ rest f. tt) (λ tail t. inl t) no_more_closes xs)
+  pub listed_takes : (xs : List A) → Takes (listed spells xs) (Where (at_sign (codes ",")) false) (read_listed never_ends read) xs
+  listed_takes xs = less_takes (listed_by_takes spells never_ends nothing (Where (at_sign (codes ",")) false) Always read reads (λ x. record { tells = λ front rest p. refl }) (λ toks h. tt) (λ rest f. tt) (λ tail t. inl t) no_more_closes xs)
       (λ front p. (front, [], p, refl, sym (append-nil front))) (λ rest f. f)
 
-module _ {A : Type 0} (spells : A → Phrase) (test : List Tok → Bool) (b : Bool) (read : Reader A) (reads : (x : A) → Takes (spells x) (Gives test b) read x) (goes : (x : A) → Tells (spells x) list_ends false)
+module _ {A : Type 0} (spells : A → Phrase) (test : List Tok → Bool) (b : Bool) (read : Reader A) (reads : (x : A) → Takes (spells x) (Where test b) read x) (goes : (x : A) → Tells (spells x) list_ends false)
     (comma : (start : ℕ) (rest : List Tok) → test (sign_at start (codes ",") ∷ rest) ≡ b) (semicolon : (start : ℕ) (rest : List Tok) → test (sign_at start (codes ";") ∷ rest) ≡ b) (bracket : (start : ℕ) (rest : List Tok) → test (sign_at start (codes "]") ∷ rest) ≡ b) where
   end_closes : (n : ℕ) (tail rest : List Tok) → (nothing or sign (codes ",")) tail → list_ends rest ≡ true → length tail ≤ n → read_commas list_ends read n (tail ++ rest) ≡ Some ([], rest)
   end_closes n tail rest (inl e) f fuel = ap (λ l. read_commas list_ends read n (l ++ rest)) e ∙ no_comma list_ends read n rest (ends_is (at_sign (codes ",")) false (λ start rest. refl) (λ start rest. refl) rest f)
   end_closes zero tail rest (inr c) f fuel = absurd (omega (arith, ap length c.1, fuel))
   end_closes (suc n) tail rest (inr c) f fuel = ap (λ l. read_commas list_ends read (suc n) (l ++ rest)) c.1 ∙ ap (λ e. cond e (Some ([], rest)) (then_read (read rest) (λ x rest. with_first x (read_commas list_ends read n rest)))) f
 
-  pub listed_open_takes : (xs : List A) → Takes (listed_open spells xs) (Gives list_ends true) (read_listed list_ends read) xs
-  listed_open_takes xs = listed_by_takes spells list_ends (nothing or sign (codes ",")) (Gives list_ends true) (Gives test b) read reads goes (comma_is test b comma) (ends_is test b semicolon bracket) (λ tail t. t) end_closes xs
+  pub listed_open_takes : (xs : List A) → Takes (listed_open spells xs) (Where list_ends true) (read_listed list_ends read) xs
+  listed_open_takes xs = listed_by_takes spells list_ends (nothing or sign (codes ",")) (Where list_ends true) (Where test b) read reads goes (comma_is test b comma) (ends_is test b semicolon bracket) (λ tail t. t) end_closes xs

@@ -9,7 +9,7 @@ use Rattle.spoc_parser.specs.Grammar.{SpellsDeclIn, SpellsFile}
 use Rattle.spoc_parser.specs.Readers.{Reader, with_first}
 use Rattle.spoc_parser.specs.Reading.{read_decl_in}
 use Rattle.spoc_parser.specs.Files.{goes_on, read_run, run_of}
-use Rattle.spoc_parser.proofs.Found.{Fronts, Sound, parts, first_some, none_taken}
+use Rattle.spoc_parser.proofs.Found.{Fronts, Sound, parts, first_some, none_taken, in_turn}
 use Rattle.spoc_parser.proofs.Spelled.{decl_in_sound}
 use Rattle.spoc_parser.proofs.Only.{Takes, Always, Tells, has_token, size_of}
 use Rattle.spoc_parser.proofs.Taken.{decl_in_takes, decl_in_some}
@@ -24,9 +24,11 @@ module _ {A : Type 0} (spells : A → Phrase) (read : Reader A) (s : Sound spell
       by again toks rest xs (Some r) is h =
           let more = first_some r.0 (read_run read n r.1) xs rest h in
           let own = s.fronts toks r.1 r.0 is in
-          let others = again.fronts r.1 more.0.1 more.0.0 more.1 in
-          (own.0 ++ others.0, subst (λ z. many spells z (own.0 ++ others.0)) more.2 (own.0, others.0, own.1, others.1, refl),
-            own.2 ∙ ap (λ l. own.0 ++ l) (others.2 ∙ ap (λ l. others.0 ++ l) more.3) ∙ sym (append_assoc own.0 others.0 rest))
+          let others = again.fronts r.1 more.0.1 more.0.0 more.1 in (
+            own.0 ++ others.0,
+            subst (λ z. many spells z (own.0 ++ others.0)) more.2 (own.0, others.0, own.1, others.1, refl),
+            in_turn toks own.0 r.1 others.0 more.0.1 rest own.2 others.2 more.3,
+          )
 
 -- there is always a run
 run_some : {A : Type 0} (read : Reader A) (n : ℕ) (toks : List Tok) → is_some (read_run read n toks) ≡ true
@@ -36,6 +38,7 @@ run_some {A} read (suc n) toks = by (run_some read n) (read toks)
     first_is : (x : A) (o : Option (List A × List Tok)) → is_some (with_first x o) ≡ is_some o
     first_is x None = refl
     first_is x (Some r) = refl
+
     by : ((toks : List Tok) → is_some (read_run read n toks) ≡ true) → (o : Option (A × List Tok)) → is_some (goes_on o (read_run read n) toks) ≡ true
     by again None = refl
     by again (Some r) = first_is r.0 (read_run read n r.1) ∙ again r.1
@@ -77,7 +80,7 @@ file_some depth toks = run_some (read_decl_in depth) (length toks) toks
 pub file_longest : (depth : ℕ) (toks rest : List Tok) (decls : List (DeclIn depth)) → run_of depth toks ≡ Some (decls, rest) → (others : List (DeclIn depth)) (front left : List Tok) → SpellsFile depth others front → toks ≡ front ++ left → length rest ≤ length left
 file_longest depth toks rest decls h others front left p whole =
     run_longest (SpellsDeclIn depth) (read_decl_in depth) (decl_in_sound depth) (decl_in_takes depth) (decl_in_some depth) others (length toks) front left rest decls p
-      (omega (arith, ap length whole, length-append front left)) (ap (read_run (read_decl_in depth) (length toks)) (sym whole) ∙ h)
+    (omega (arith, ap length whole, length-append front left)) (ap (read_run (read_decl_in depth) (length toks)) (sym whole) ∙ h)
 
 pub file_whole : (depth : ℕ) (toks : List Tok) (decls : List (DeclIn depth)) → SpellsFile depth decls toks → run_of depth toks ≡ Some (decls, [])
 file_whole depth toks decls p = run_whole (SpellsDeclIn depth) (read_decl_in depth) (decl_in_sound depth) (decl_in_takes depth) (decl_in_some depth) refl decls (length toks) toks p (omega arith)

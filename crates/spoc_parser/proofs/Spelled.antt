@@ -4,12 +4,12 @@ use Rattle.std.specs.Prelude.{codes}
 use Rattle.spoc_lexer.specs.Tokens.{Tok}
 use Rattle.spoc_parser.specs.declared.forms.Form.{Form}
 use Rattle.spoc_parser.specs.declared.forms.Form.TheVariants.{Any, Name, Address, Prefix, Number, Range, Ports, Icmp, Filter, Routing, Note, ListKey, ValueKey, Flag}
-use Rattle.spoc_parser.specs.Trees.{Lexeme, IdleItem, TermOf, network, host, port, group, aggregate, area, user, nets, hosts, anys, InterOf, SetOf, SetIn, HostItem, host_ip, host_range, host_idle, NatItem, nat_ip, NetItem, net_ip, net_host, net_nat, net_idle, IfaceItem, iface_ip, iface_hardware, iface_bind_nat, iface_idle, RouterItem, router_managed, router_model, router_routing, router_iface, router_idle, AreaItem, area_anchor, area_border, area_idle, AnyItem, any_link, any_ip, any_idle, Proto, proto_ip, proto_tcp, proto_udp, proto_icmp, proto_number, ProtoItem, one_proto, a_protocol, a_protogroup, RuleOf, DeclOf, network_decl, router_decl, group_decl, area_decl, aggregate_decl, protocol_decl, protogroup_decl, restriction_decl, service_decl, DeclIn}
+use Rattle.spoc_parser.specs.Trees.{Lexeme, TermOf, network, host, port, group, aggregate, area, user, nets, hosts, anys, host_ip, host_range, host_idle, nat_ip, net_ip, net_host, net_nat, net_idle, iface_ip, iface_hardware, iface_bind_nat, iface_idle, router_managed, router_model, router_routing, router_iface, router_idle, area_anchor, area_border, area_idle, any_link, any_ip, any_idle, proto_ip, proto_tcp, proto_udp, proto_icmp, proto_number, ProtoItem, one_proto, a_protocol, a_protogroup, RuleOf, DeclOf, network_decl, router_decl, group_decl, area_decl, aggregate_decl, protocol_decl, protogroup_decl, restriction_decl, service_decl}
 use Rattle.spoc_parser.specs.Phrases.{Phrase, ◌then◌, ◌or◌, sign, key, a_word, named, perhaps, many, some, listed_open, none_of}
-use Rattle.spoc_parser.specs.Grammar.{SpellsDesc, SpellsIdle, setting, body, body_with, SpellsHostItem, SpellsNatItem, SpellsNetItem, SpellsIfaceItem, SpellsRouterItem, SpellsAreaItem, SpellsAnyItem, SpellsProto, SpellsProtoItem, SpellsTermOf, mark, SpellsFurther, SpellsInter, SpellsSet, SpellsNone, SpellsSetIn, SpellsRule, SpellsDecl, SpellsDeclIn}
-use Rattle.spoc_parser.specs.Readers.{Reader, then_read, ◌>>=◌, done, past, at_sign, read_named, read_until}
-use Rattle.spoc_parser.specs.Reading.{read_desc, no_desc, read_desc_part, idle_of, read_list_idle, read_value_idle, read_flag_idle, read_idle, read_setting, read_at_network, read_parts, read_body, read_opening, read_host_ip, read_host_range, read_host_item, read_nat_item, read_net_ip, read_host, read_nat, read_net_item, read_iface_ip, read_hardware, read_bind_nat, read_iface_item, read_iface_body, read_iface, no_value, read_filter, read_managed, read_model, read_routing, read_router_item, read_anchor, read_border, read_area_item, read_link, read_any_ip, read_any_item, read_tcp, read_udp, read_icmp, read_number, read_proto, read_proto_item, read_bracket, no_prefix, read_inside, read_anys, read_named_term, read_term_of, past_mark, read_signed, read_other, no_other, read_others, read_inter, read_set, read_none, read_set_in, read_side, read_prts, rule_of, read_rule, read_rules, no_idle, read_network, read_router, read_area, read_aggregate, read_group, read_protocol, read_protogroup, read_restriction, read_service, read_decl, read_decl_in}
-use Rattle.spoc_parser.proofs.Found.{Fronts, Sound, Behind, then_some, parts, bind_sound, last_sound, more_sound, if_sound, past_sound, done_sound, refuse_sound, sign_shape, key_shape, sign_sound, key_sound, text_sound, word_sound, named_sound, port_sound, spread_sound, spread_or_none_sound, unless_sound, until_sound, listed_sound, listed_open_sound, further_sound}
+use Rattle.spoc_parser.specs.Grammar.{SpellsDesc, SpellsIdle, setting, body, body_with, SpellsHostItem, SpellsNatItem, SpellsNetItem, SpellsIfaceItem, SpellsRouterItem, SpellsAreaItem, SpellsAnyItem, SpellsProto, SpellsProtoItem, SpellsTermOf, mark, SpellsFurther, SpellsInter, SpellsSetIn, SpellsRule, SpellsDecl, SpellsDeclIn}
+use Rattle.spoc_parser.specs.Readers.{Reader, then_read, ◌>>=◌, done, past, at_sign, read_named}
+use Rattle.spoc_parser.specs.Reading.{read_desc, no_desc, read_desc_part, idle_of, read_list_idle, read_value_idle, read_flag_idle, read_idle, read_setting, read_at_network, read_parts, read_body, read_opening, read_host_ip, read_host_range, read_host_item, read_nat_item, read_net_ip, read_host, read_nat, read_net_item, read_iface_ip, read_hardware, read_bind_nat, read_iface_item, read_iface_body, read_iface, no_value, read_filter, read_managed, read_model, read_routing, read_router_item, read_anchor, read_border, read_area_item, read_link, read_any_ip, read_any_item, read_tcp, read_udp, read_icmp, read_number, read_proto, read_proto_item, read_bracket, no_prefix, read_inside, read_anys, read_named_term, read_term_of, read_signed, read_other, no_other, read_inter, read_set_in, read_side, read_prts, rule_of, read_rule, read_rules, no_idle, read_group, read_protocol, read_protogroup, read_restriction, read_service, read_decl, read_decl_in}
+use Rattle.spoc_parser.proofs.Found.{Fronts, Sound, Behind, then_some, parts, in_turn, bind_sound, last_sound, more_sound, if_sound, past_sound, done_sound, refuse_sound, sign_shape, key_shape, sign_sound, key_sound, text_sound, word_sound, named_sound, port_sound, spread_sound, spread_or_none_sound, unless_sound, until_sound, listed_sound, listed_open_sound, further_sound}
 
 -- ---- phrases put together
 
@@ -74,6 +74,7 @@ host_item_sound = if_sound _ ip (if_sound _ range (last_sound host_idle idle_sou
   where
     ip : Sound SpellsHostItem read_host_ip
     ip = last_sound host_ip (setting_sound (codes "ip") Address) (λ x f p. p)
+
     range : Sound SpellsHostItem read_host_range
     range = bind_sound (key_sound (codes "range")) λ _. bind_sound (sign_sound (codes "=")) λ _. bind_sound (spread_sound Range) λ words. last_sound (λ _. host_range words) (sign_sound (codes ";"))
         (λ _ f4 p4 f3 p3 f2 p2 f1 p1. (f1, _, p1, (f2, _, p2, (f3, f4, p3, p4, refl), refl), refl))
@@ -86,8 +87,10 @@ net_item_sound = if_sound _ ip (if_sound _ host_part (if_sound _ nat_part (last_
   where
     ip : Sound SpellsNetItem read_net_ip
     ip = last_sound net_ip (setting_sound (codes "ip") Prefix) (λ x f p. p)
+
     host_part : Sound SpellsNetItem read_host
     host_part = bind_sound (named_sound (codes "host:")) λ name. last_sound (net_host name) (body_sound host_item_sound) (λ x f2 p2 f1 p1. (f1, f2, p1, p2, refl))
+
     nat_part : Sound SpellsNetItem read_nat
     nat_part = bind_sound (named_sound (codes "nat:")) λ name. last_sound (net_nat name) (body_sound nat_item_sound) (λ x f2 p2 f1 p1. (f1, f2, p1, p2, refl))
 
@@ -98,8 +101,10 @@ iface_item_sound = if_sound _ ip (if_sound _ hardware (if_sound _ bind_nat (last
   where
     ip : Sound SpellsIfaceItem read_iface_ip
     ip = last_sound iface_ip (setting_sound (codes "ip") Address) (λ x f p. p)
+
     hardware : Sound SpellsIfaceItem read_hardware
     hardware = last_sound iface_hardware (setting_sound (codes "hardware") Any) (λ x f p. p)
+
     bind_nat : Sound SpellsIfaceItem read_bind_nat
     bind_nat = bind_sound (key_sound (codes "bind_nat")) λ _. bind_sound (sign_sound (codes "=")) λ _. bind_sound (listed_sound (word_sound Name)) λ tags. last_sound (λ _. iface_bind_nat tags) (sign_sound (codes ";"))
         (λ _ f4 p4 f3 p3 f2 p2 f1 p1. (f1, _, p1, (f2, _, p2, (f3, f4, p3, p4, refl), refl), refl))
@@ -116,10 +121,13 @@ router_item_sound = if_sound _ managed (if_sound _ model (if_sound _ routing (if
     managed : Sound SpellsRouterItem read_managed
     managed = bind_sound (key_sound (codes "managed")) λ _. bind_sound (unless_sound no_value filter_sound) λ filter. last_sound (λ _. router_managed filter) (sign_sound (codes ";"))
         (λ _ f3 p3 f2 p2 f1 p1. (f1, _, p1, (f2, f3, p2, p3, refl), refl))
+
     model : Sound SpellsRouterItem read_model
     model = last_sound router_model (setting_sound (codes "model") Any) (λ x f p. p)
+
     routing : Sound SpellsRouterItem read_routing
     routing = last_sound router_routing (setting_sound (codes "routing") Routing) (λ x f p. p)
+
     iface : Sound SpellsRouterItem read_iface
     iface = bind_sound (named_sound (codes "interface:")) λ net. last_sound (router_iface net) iface_body_sound (λ x f2 p2 f1 p1. (f1, f2, p1, p2, refl))
 
@@ -130,6 +138,7 @@ area_item_sound = if_sound _ anchor (if_sound _ border (last_sound area_idle idl
   where
     anchor : Sound SpellsAreaItem read_anchor
     anchor = last_sound area_anchor (at_network_sound (codes "anchor")) (λ x f p. p)
+
     border : Sound SpellsAreaItem read_border
     border = bind_sound (key_sound (codes "border")) λ _. bind_sound (sign_sound (codes "=")) λ _. bind_sound (listed_sound port_sound) λ ports. last_sound (λ _. area_border ports) (sign_sound (codes ";"))
         (λ _ f4 p4 f3 p3 f2 p2 f1 p1. (f1, _, p1, (f2, _, p2, (f3, f4, p3, p4, refl), refl), refl))
@@ -139,6 +148,7 @@ any_item_sound = if_sound _ link (if_sound _ ip (last_sound any_idle idle_sound 
   where
     link : Sound SpellsAnyItem read_link
     link = last_sound any_link (at_network_sound (codes "link")) (λ x f p. p)
+
     ip : Sound SpellsAnyItem read_any_ip
     ip = last_sound any_ip (setting_sound (codes "ip") Prefix) (λ x f p. p)
 
@@ -149,10 +159,13 @@ proto_sound = past_sound (done proto_ip) (key_shape (codes "ip")) (done_sound pr
   where
     tcp : Sound SpellsProto read_tcp
     tcp = bind_sound (key_sound (codes "tcp")) λ _. last_sound proto_tcp (spread_or_none_sound Ports) (λ x f2 p2 f1 p1. (f1, f2, p1, p2, refl))
+
     udp : Sound SpellsProto read_udp
     udp = bind_sound (key_sound (codes "udp")) λ _. last_sound proto_udp (spread_or_none_sound Ports) (λ x f2 p2 f1 p1. (f1, f2, p1, p2, refl))
+
     icmp : Sound SpellsProto read_icmp
     icmp = bind_sound (key_sound (codes "icmp")) λ _. last_sound proto_icmp (spread_or_none_sound Icmp) (λ x f2 p2 f1 p1. (f1, f2, p1, p2, refl))
+
     number : Sound SpellsProto read_number
     number = bind_sound (key_sound (codes "proto")) λ _. last_sound proto_number (word_sound Number) (λ x f2 p2 f1 p1. (f1, f2, p1, p2, refl))
 
@@ -208,9 +221,11 @@ signed_sound {T} {spells} {read} s = record { fronts = λ toks rest f h. by toks
         let inside = then_some (read (past toks)) _ (f, rest) h in
         let value = parts (true, inside.0.0) f inside.0.1 rest inside.2 in
         let sign = sign_shape (codes "!") toks is in
-        let own = s.fronts (past toks) inside.0.1 inside.0.0 inside.1 in
-        (sign.0 ++ own.0, subst (λ g. (mark g.0 then spells g.1) (sign.0 ++ own.0)) value.0 (sign.0, own.0, sign.1, own.1, refl),
-          sign.2 ∙ ap (λ l. sign.0 ++ l) (own.2 ∙ ap (λ l. own.0 ++ l) value.1) ∙ sym (append_assoc sign.0 own.0 rest))
+        let own = s.fronts (past toks) inside.0.1 inside.0.0 inside.1 in (
+          sign.0 ++ own.0,
+          subst (λ g. (mark g.0 then spells g.1) (sign.0 ++ own.0)) value.0 (sign.0, own.0, sign.1, own.1, refl),
+          in_turn toks sign.0 (past toks) own.0 inside.0.1 rest sign.2 own.2 value.1,
+        )
     by toks rest f false is h =
         let inside = then_some (read toks) _ (f, rest) h in
         let value = parts (false, inside.0.0) f inside.0.1 rest inside.2 in
@@ -257,9 +272,11 @@ rules_sound {S} {spells} {read} s = record { fronts = λ toks rest rules h. by t
   where
     closed : (toks rest : List Tok) (front : List Tok) → (many (SpellsRule spells) [] then sign (codes "}")) front → toks ≡ front ++ rest → at_sign (codes "}") toks ≡ true
     closed toks rest front p e = ap (at_sign (codes "}")) (e ∙ λ i. (p.4 i) ++ rest) ∙ λ i. at_sign (codes "}") ((p.2 i ++ p.3.1 i) ++ rest)
+
     several : (toks rest : List Tok) (rules : List (RuleOf S)) → at_sign (codes "}") toks ≡ false → Fronts (many (SpellsRule spells) rules then sign (codes "}")) toks rest → Fronts (some (SpellsRule spells) rules then sign (codes "}")) toks rest
     several toks rest [] is f = absurd (true≢false (sym (closed toks rest f.0 f.1 f.2) ∙ is))
     several toks rest (rule ∷ rules) is f = f
+
     by : (toks rest : List Tok) (rules : List (RuleOf S)) (b : Bool) → at_sign (codes "}") toks ≡ b → cond b None (read_parts (read_rule read) toks) ≡ Some (rules, rest) → Fronts (some (SpellsRule spells) rules then sign (codes "}")) toks rest
     by toks rest rules true is h = cc
     by toks rest rules false is h = several toks rest rules is ((parts_sound (rule_sound s)).fronts toks rest rules h)

@@ -13,8 +13,7 @@ ghost use Rattle.spoc_parser.specs.Files.{run_of};
 pub fn declarations_are_spelled()
     ensures declaration { (depth : ℕ) (toks rest : List Tok) (decl : DeclIn depth) → read_decl_in depth toks ≡ Some (decl, rest) → (front : List Tok) × SpellsDeclIn depth decl front × (toks ≡ front ++ rest) }
     ensures run { (depth : ℕ) (toks rest : List Tok) (decls : List (DeclIn depth)) → run_of depth toks ≡ Some (decls, rest) → (front : List Tok) × SpellsFile depth decls front × (toks ≡ front ++ rest) }
-{
-}
+{}
 
 /// What is in the grammar is read, and as nothing else.
 ///
@@ -25,8 +24,7 @@ pub fn declarations_are_read()
     ensures read { (depth : ℕ) (front rest : List Tok) (decl : DeclIn depth) → SpellsDeclIn depth decl front → read_decl_in depth (front ++ rest) ≡ Some (decl, rest) }
     ensures alone { (depth : ℕ) (front more : List Tok) (decl other : DeclIn depth) → SpellsDeclIn depth decl front → SpellsDeclIn depth other (front ++ more) → (more ≡ []) × (decl ≡ other) }
     ensures one_file { (depth : ℕ) (toks : List Tok) (decls others : List (DeclIn depth)) → SpellsFile depth decls toks → SpellsFile depth others toks → decls ≡ others }
-{
-}
+{}
 
 /// The run that is read is the longest.
 ///
@@ -39,5 +37,4 @@ pub fn runs_are_longest()
     ensures spelled { (depth : ℕ) (toks rest : List Tok) (decls : List (DeclIn depth)) → run_of depth toks ≡ Some (decls, rest) → (front : List Tok) × SpellsFile depth decls front × (toks ≡ front ++ rest) }
     ensures longest { (depth : ℕ) (toks rest : List Tok) (decls : List (DeclIn depth)) → run_of depth toks ≡ Some (decls, rest) → (others : List (DeclIn depth)) (front left : List Tok) → SpellsFile depth others front → toks ≡ front ++ left → length rest ≤ length left }
     ensures file { (depth : ℕ) (toks : List Tok) (decls : List (DeclIn depth)) → SpellsFile depth decls toks ↔ (run_of depth toks ≡ Some (decls, [])) }
-{
-}
+{}
