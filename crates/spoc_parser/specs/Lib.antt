@@ -7,3 +7,4 @@ pub mod Reading
 pub mod Files
 pub mod Reach
 pub mod Seen
+pub mod Ends

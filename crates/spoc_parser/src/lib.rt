@@ -4,6 +4,7 @@
 mod cursor;
 mod fail;
 mod forms;
+mod lists;
 mod words;
 
 pub use fail::ParseFail;
