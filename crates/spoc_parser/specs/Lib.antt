@@ -8,3 +8,5 @@ pub mod Files
 pub mod Reach
 pub mod Seen
 pub mod Ends
+pub mod Forms
+pub mod SeenParts

@@ -5,6 +5,8 @@ mod cursor;
 mod fail;
 mod forms;
 mod lists;
+mod parts;
+mod spread;
 mod words;
 
 pub use fail::ParseFail;

@@ -20,6 +20,8 @@ pub enum End {
     Brace,
     // Where no part without effect follows.
     Idle,
+    // Where no word follows.
+    Words,
 }
 
 // What a list of a tree is made of.
@@ -48,6 +50,7 @@ impl<'a, 't> Cursor<'a, 't> {
         match end {
             End::Brace => self.at_sign(b"}"),
             End::Idle => !self.at_idle(),
+            End::Words => !self.at_word(),
         }
     }
 
