@@ -1,6 +1,8 @@
-pub mod Ports
 pub mod Found
 pub mod Spelled
-pub mod Runs
 pub mod Only
 pub mod Taken
+pub mod Runs
+pub mod Ports
+pub mod Gathering
+pub mod Spreading

@@ -7,3 +7,6 @@ pub mod Reading
 pub mod Files
 pub mod Reach
 pub mod Seen
+pub mod Ends
+pub mod Forms
+pub mod SeenParts

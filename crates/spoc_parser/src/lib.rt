@@ -5,6 +5,9 @@ mod cursor;
 mod fail;
 mod forms;
 pub mod laws;
+mod lists;
+mod parts;
+mod spread;
 mod words;
 
 pub use fail::ParseFail;
