@@ -7,5 +7,7 @@ pub mod Reading
 pub mod Files
 pub mod Reach
 pub mod Seen
+pub mod Ends
+pub mod Forms
+pub mod SeenParts
 pub mod Levels
-pub mod Run

@@ -2,11 +2,13 @@
 #![tactic(auto)]
 
 mod cursor;
+pub mod depth_law;
 mod fail;
 mod forms;
-mod parsing;
+pub mod laws;
+mod lists;
+mod parts;
+mod spread;
 mod words;
 
 pub use fail::ParseFail;
-pub use parsing::parse;
-pub use token_checks::{left_out, too_deep};

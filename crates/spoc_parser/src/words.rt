@@ -1,4 +1,4 @@
-ghost use Rattle.std.specs.Prelude.{◌≡◌, ◌<◌, ◌≤◌, ◌+◌, ◌^◌, [], ◌∷◌, true, false, None, OnOk, OnSome, IfSome, IfNone, length, drop};
+ghost use Rattle.std.specs.Prelude.{◌≡◌, ◌<◌, ◌≤◌, ◌+◌, ◌^◌, [], ◌∷◌, true, false, None, OnOk, OnSome, IfSome, IfNone, IsTrue, if◌then◌else◌, length, drop};
 ghost use Rattle.spoc_parser.specs.Readers.{at_sign, at_key, at_kind, at_form, at_word, past, is_word, is_sign, is_text, read_sign, read_key, read_word, read_text, read_named, port_of, read_port};
 ghost use Rattle.spoc_parser.specs.Texts.{begins_with};
 ghost use Rattle.spoc_parser.specs.Reach.{IsInReach};
@@ -115,6 +115,20 @@ impl<'a, 't> Cursor<'a, 't> {
             [token, ..] => is_word(token.kind),
             [] => false,
         }
+    }
+
+    // Takes a sign, where it comes next.
+    pub fn take_sign(&mut self, text: &[u8]) -> bool
+        ensures which { result ≡ at_sign text.now (toks_of self.old.rest.now) }
+        ensures left { toks_of self.new.rest.now ≡ (if at_sign text.now (toks_of self.old.rest.now) then past (toks_of self.old.rest.now) else toks_of self.old.rest.now) }
+        ensures shorter { IsTrue result → length self.new.rest.now < length self.old.rest.now }
+        ensures no_longer { length self.new.rest.now ≤ length self.old.rest.now }
+    {
+        if !self.at_sign(text) {
+            return false;
+        }
+        self.step();
+        true
     }
 
     // Takes the next token.

@@ -1,0 +1,10 @@
+use Rattle.std.specs.Prelude.{length}
+use Rattle.spoc_parser.proofs.Spelled.{decl_in_sound}
+use Rattle.spoc_parser.proofs.Runs.{file_sound}
+use Rattle.spoc_parser.proofs.laws.declarations_are_spelled.Goals as goal
+
+pub returns-clause-declaration : goal.returns-clause-declaration
+returns-clause-declaration c = λ depth toks rest decl h. (decl_in_sound depth).fronts toks rest decl h
+
+pub returns-clause-run : goal.returns-clause-run
+returns-clause-run c = λ depth toks rest decls h. (file_sound depth (length toks)).fronts toks rest decls h
