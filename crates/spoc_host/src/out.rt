@@ -1,4 +1,4 @@
-ghost use Rattle.std.specs.Prelude.{◌≡◌, None, OnErr, OnOk};
+ghost use Rattle.std.specs.Prelude.{◌≡◌, None};
 ghost use Rattle.spoc_io.specs.Causes.{HasCause};
 ghost use Rattle.spoc_host.specs.Counts.{after_error};
 

@@ -1,5 +1,4 @@
 ghost use Rattle.std.specs.Prelude.{◌==◌, ◌≡◌, IfOk, IsErrOf};
-ghost use Rattle.std.specs.List.{list_any, slice_split};
 ghost use Rattle.spoc_host.specs.Paths.{is_outer_part, leads_out, path_in};
 
 use spoc_base::{NoMemory, Text};
