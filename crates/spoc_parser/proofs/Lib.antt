@@ -1,3 +1,4 @@
 pub mod Ports
 pub mod Gathering
 pub mod Spreading
+pub mod Levels

@@ -6,7 +6,9 @@ mod fail;
 mod forms;
 mod lists;
 mod parts;
+mod protos;
 mod spread;
+mod terms;
 mod words;
 
 pub use fail::ParseFail;
