@@ -2,3 +2,4 @@ pub mod Ports
 pub mod Gathering
 pub mod Spreading
 pub mod Levels
+pub mod Running

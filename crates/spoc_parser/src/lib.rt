@@ -2,9 +2,11 @@
 #![tactic(auto)]
 
 mod cursor;
+mod decls;
 mod fail;
 mod forms;
 mod lists;
+mod parser;
 mod parts;
 mod protos;
 mod spread;
@@ -12,3 +14,4 @@ mod terms;
 mod words;
 
 pub use fail::ParseFail;
+pub use parser::parse;
