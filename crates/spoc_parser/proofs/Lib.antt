@@ -3,3 +3,4 @@ pub mod Gathering
 pub mod Spreading
 pub mod Levels
 pub mod Running
+pub mod Reaching

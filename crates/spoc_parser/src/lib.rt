@@ -11,7 +11,9 @@ mod parts;
 mod protos;
 mod spread;
 mod terms;
+mod within;
 mod words;
 
 pub use fail::ParseFail;
 pub use parser::parse;
+pub use within::are_in_reach;
