@@ -12,8 +12,7 @@ use Rattle.token_checks.specs.LeftOut.{is_left_out_at}
 use Rattle.token_checks.proofs.Bounds.{ends_fit}
 use Rattle.spoc_parser.specs.Reach.{AreInReach}
 use Rattle.token_checks.specs.Nesting.{is_too_deep_at}
-use Rattle.spoc_parser.specs.Files.{run_of}
-use Rattle.spoc_parser.specs.Levels.{most_set_levels}
+use Rattle.spoc_parser.specs.Files.{run_of, most_levels}
 use Rattle.policy_files.specs.Fault.{or_else, lex_fault, left_out_fault, deep_fault, syntax_fault, toks_in, offset_in, first_token, behind_run}
 use Rattle.policy_files.specs.Rank.{text_fault, toks_fault}
 
@@ -22,7 +21,7 @@ abbrev read_fault : ℕ → Result (List Tok) ℕ → Option Fault
 read_fault k r =
     or_else (option_map (λ offset. lex_fault (k, offset)) (offset_in r)) (or_else (option_map (λ tok. left_out_fault (k, tok)) (first_token (is_left_out_at (toks_in r)) (toks_in r)))
     (or_else (option_map (λ tok. deep_fault (k, tok)) (first_token (is_too_deep_at (toks_in r)) (toks_in r)))
-    (option_map (λ tok. syntax_fault (k, tok)) (behind_run (run_of most_set_levels (toks_in r))))))
+    (option_map (λ tok. syntax_fault (k, tok)) (behind_run (run_of most_levels (toks_in r))))))
 
 pub by_toks : (k : ℕ) (text : List ℕ) (toks : List Tok) → tokens_of text ≡ Ok toks → text_fault k text ≡ toks_fault k toks
 by_toks k text toks e = ap (read_fault k) e

@@ -6,8 +6,7 @@ use Rattle.spoc_base.specs.declared.fault.Fault.TheVariants.{Lex, LeftOut, Deep,
 use Rattle.spoc_lexer.specs.Tokens.{Tok, tokens_of}
 use Rattle.token_checks.specs.LeftOut.{is_left_out_at}
 use Rattle.token_checks.specs.Nesting.{is_too_deep_at}
-use Rattle.spoc_parser.specs.Files.{run_of}
-use Rattle.spoc_parser.specs.Levels.{most_set_levels}
+use Rattle.spoc_parser.specs.Files.{run_of, most_levels}
 
 -- the first place of so many, from k on, that passes the test
 abbrev pub first_from : (ℕ → Bool) → ℕ → ℕ → Option ℕ
@@ -47,7 +46,7 @@ behind_run (Some r) = slice_get r.1 0
 
 -- the token behind the longest run of whole declarations
 abbrev pub unread_token : List ℕ → Option Tok
-unread_token text = behind_run (run_of most_set_levels (toks_in (tokens_of text)))
+unread_token text = behind_run (run_of most_levels (toks_in (tokens_of text)))
 
 -- ---- the fault of all texts
 

@@ -5,8 +5,7 @@ use Rattle.spoc_base.specs.declared.fault.Fault.TheVariants.{Lex, LeftOut, Deep,
 use Rattle.spoc_lexer.specs.Tokens.{Tok}
 use Rattle.token_checks.specs.LeftOut.{is_left_out_at}
 use Rattle.token_checks.specs.Nesting.{is_too_deep_at}
-use Rattle.spoc_parser.specs.Files.{run_of}
-use Rattle.spoc_parser.specs.Levels.{most_set_levels}
+use Rattle.spoc_parser.specs.Files.{run_of, most_levels}
 use Rattle.policy_files.specs.Fault.{or_else, lex_fault, left_out_fault, deep_fault, syntax_fault, bad_byte, omitted_word, deep_bracket, unread_token, first_token, behind_run}
 
 -- the place of the fault's kind in the order of faults
@@ -35,4 +34,4 @@ text_fault k text =
 abbrev pub toks_fault : ℕ → List Tok → Option Fault
 toks_fault k toks =
     or_else (option_map (λ tok. left_out_fault (k, tok)) (first_token (is_left_out_at toks) toks)) (or_else (option_map (λ tok. deep_fault (k, tok)) (first_token (is_too_deep_at toks) toks))
-    (option_map (λ tok. syntax_fault (k, tok)) (behind_run (run_of most_set_levels toks))))
+    (option_map (λ tok. syntax_fault (k, tok)) (behind_run (run_of most_levels toks))))

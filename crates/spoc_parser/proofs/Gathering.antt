@@ -146,3 +146,20 @@ listed_gives ends read R x before (Ok v) items toks mid rest e h k =
 listed_gives ends read R x before (Err e) items toks mid rest is h k =
     let a = given R x mid (read toks) h in
     gives_err e (read_further ends read mid) _ k (λ none. rw (a.2, none) refl)
+
+-- what is read behind what was read
+pub then_ok : {A B X Y : Type 0} (R : A → X → Type 0) (Q : B → Y → Type 0) (x : X) (r : Result Y Stop) (mid rest : List Tok) (o : Option (A × List Tok)) (f : A → Reader B) → Gives R (Ok x) mid o → ((a : A) → R a x → Gives Q r rest (f a mid)) → Gives Q r rest (then_read o f)
+then_ok R Q x r mid rest None f h k = absurd h
+then_ok R Q x r mid rest (Some p) f h k = subst (λ m. Gives Q r rest (f p.0 m)) h.1 (k p.0 h.0)
+
+pub then_next : {A B X : Type 0} (R : A → X → Type 0) (x : X) (e : Stop) (mid : List Tok) (o : Option (A × List Tok)) (f : A → Reader B) → Gives R (Ok x) mid o → ((a : A) → FailsAs e (f a mid)) → FailsAs e (then_read o f)
+then_next R x e mid None f h k = absurd h
+then_next R x e mid (Some p) f h k = subst (λ m. FailsAs e (f p.0 m)) h.1 (k p.0)
+
+pub then_err : {A B : Type 0} (e : Stop) (o : Option (A × List Tok)) (f : A → Reader B) → FailsAs e o → FailsAs e (then_read o f)
+then_err e o f h = gives_err e o (then_read o f) h (λ none. rw none refl)
+
+-- the same, seen in another value
+pub gives_as : {A Y V W : Type 0} (P : A → Y → Type 0) (items : V → Y) (v : V) (items' : W → Y) (u : W) (left : List Tok) (o : Option (A × List Tok)) → items' u ≡ items v → Gives (λ a w. P a (items w)) (Ok v) left o → Gives (λ a w. P a (items' w)) (Ok u) left o
+gives_as P items v items' u left None e h = absurd h
+gives_as P items v items' u left (Some r) e h = (subst (P r.0) (sym e) h.0, h.1)

@@ -11,3 +11,6 @@ pub mod Raising
 pub mod Lowering
 pub mod Undoing
 pub mod Deeper
+pub mod Levels
+pub mod Running
+pub mod Reaching

@@ -18,3 +18,7 @@ read_run read (suc n) toks = goes_on (read toks) (read_run read n) toks
 -- the longest run of declarations at the front, and the tokens behind it
 abbrev pub run_of : (depth : ℕ) → Reader (List (DeclIn depth))
 run_of depth toks = read_run (read_decl_in depth) (length toks) toks
+
+-- the levels that sets of a file have at most: a set, and sixteen brackets that are open in it
+abbrev pub most_levels : ℕ
+most_levels = 17

@@ -11,3 +11,4 @@ pub mod Ends
 pub mod Forms
 pub mod SeenParts
 pub mod Levels
+pub mod SeenFile

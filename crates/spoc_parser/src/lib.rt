@@ -3,12 +3,20 @@
 
 mod cursor;
 pub mod depth_law;
+mod decls;
 mod fail;
 mod forms;
 pub mod laws;
 mod lists;
+mod parser;
 mod parts;
+mod protos;
 mod spread;
+mod terms;
+mod within;
 mod words;
 
 pub use fail::ParseFail;
+pub use parser::parse;
+pub use token_checks::{left_out, too_deep};
+pub use within::are_in_reach;

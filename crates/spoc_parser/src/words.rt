@@ -131,6 +131,20 @@ impl<'a, 't> Cursor<'a, 't> {
         true
     }
 
+    // Takes a word, where it comes next.
+    pub fn take_key(&mut self, text: &[u8]) -> bool
+        ensures which { result ≡ at_key text.now (toks_of self.old.rest.now) }
+        ensures left { toks_of self.new.rest.now ≡ (if at_key text.now (toks_of self.old.rest.now) then past (toks_of self.old.rest.now) else toks_of self.old.rest.now) }
+        ensures shorter { IsTrue result → length self.new.rest.now < length self.old.rest.now }
+        ensures no_longer { length self.new.rest.now ≤ length self.old.rest.now }
+    {
+        if !self.at_key(text) {
+            return false;
+        }
+        self.step();
+        true
+    }
+
     // Takes the next token.
     pub fn take(&mut self) -> Option<Token<'a>>
         ensures token { IfSome result (λ token. toks_of self.old.rest.now ≡ seen token ∷ toks_of self.new.rest.now) }

@@ -1,0 +1,24 @@
+use Rattle.std.proofs.Common.{◌≡◌, ℕ, true, false, List, Ok, Err, Bor, refl, sym, ◌∙◌, ap, subst}
+use Rattle.std.specs.Prelude.{codes}
+use Rattle.std.specs.List.{AllZip}
+use Rattle.std.proofs.lemmas.Result.{err_from_is_err_and}
+use Rattle.spoc_ast.specs.declared.word.Word.{Word}
+use Rattle.spoc_ast.specs.declared.decl.Prt.{Prt}
+use Rattle.spoc_ast.specs.declared.decl.Simple.TheVariants as Simples
+use Rattle.spoc_parser.specs.declared.forms.Form.TheVariants.{Ports, Icmp}
+use Rattle.spoc_parser.specs.Readers.{read_key, read_sign, read_spread_or_none, read_listed, list_ends}
+use Rattle.spoc_parser.specs.Reading.{read_proto_item}
+use Rattle.spoc_parser.specs.Seen.{toks_of}
+use Rattle.spoc_parser.specs.SeenParts.{AreWords, IsProto, IsProtoItem}
+use Rattle.spoc_parser.proofs.Gathering.{then_ok, then_next, then_err}
+use Rattle.spoc_parser.proofs.cursor.Source.udp.Goals as goal
+
+pub returns-in_err-ports-clause-gives : goal.returns-in_err-ports-clause-gives
+returns-in_err-ports-clause-gives c =
+    let p = err_from_is_err_and c.from_residual-in_err-ports.result c.from_residual-in_err-ports.ensures.1 in
+    rw (p.1, p.2) (then_next (λ a x. a ≡ x) c.in_ok-key.field-0 c.in_err-ports.field-0.0 (toks_of c.key.new.self.rest.now) (read_key (codes "udp") (toks_of c.args.tokens.now.rest.now)) _ c.in_ok-key.ensures.gives (λ _. then_err c.in_err-ports.field-0.0 (read_spread_or_none Ports (toks_of c.key.new.self.rest.now)) _ c.in_err-ports.ensures.gives))
+
+pub returns-clause-gives : goal.returns-clause-gives
+returns-clause-gives c =
+    then_ok (λ a x. a ≡ x) (IsProto c.args.self.file) c.in_ok-key.field-0 (Ok (Simples.Udp c.in_ok-ports.ports)) (toks_of c.key.new.self.rest.now) (toks_of c.spread_or_none.new.tokens.rest.now) (read_key (codes "udp") (toks_of c.args.tokens.now.rest.now)) _ c.in_ok-key.ensures.gives λ _ _.
+    then_ok (λ xs (ys : Bor (List Word)). AreWords c.args.self.file xs ys.now) (IsProto c.args.self.file) c.in_ok-ports.ports (Ok (Simples.Udp c.in_ok-ports.ports)) (toks_of c.spread_or_none.new.tokens.rest.now) (toks_of c.spread_or_none.new.tokens.rest.now) (read_spread_or_none Ports (toks_of c.key.new.self.rest.now)) _ c.in_ok-ports.ensures.gives λ _ held. (held, refl)
