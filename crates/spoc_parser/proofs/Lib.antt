@@ -1,16 +1,6 @@
-pub mod Found
-pub mod Spelled
-pub mod Only
-pub mod Taken
-pub mod Runs
 pub mod Ports
 pub mod Gathering
 pub mod Spreading
-pub mod Balanced
-pub mod Raising
-pub mod Lowering
-pub mod Undoing
-pub mod Deeper
 pub mod Levels
 pub mod Running
 pub mod Reaching

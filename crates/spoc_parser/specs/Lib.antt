@@ -10,5 +10,4 @@ pub mod Seen
 pub mod Ends
 pub mod Forms
 pub mod SeenParts
-pub mod Levels
 pub mod SeenFile

@@ -2,11 +2,9 @@
 #![tactic(auto)]
 
 mod cursor;
-pub mod depth_law;
 mod decls;
 mod fail;
 mod forms;
-pub mod laws;
 mod lists;
 mod parser;
 mod parts;

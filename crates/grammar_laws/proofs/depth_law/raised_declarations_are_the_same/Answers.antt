@@ -1,7 +1,7 @@
-use Rattle.spoc_parser.proofs.Lowering.{adds_up}
-use Rattle.spoc_parser.proofs.Raising.{raised_by_spells, files_by_spell}
-use Rattle.spoc_parser.proofs.Undoing.{raised_by_apart}
-use Rattle.spoc_parser.proofs.depth_law.raised_declarations_are_the_same.Goals as goal
+use Rattle.grammar_laws.proofs.Lowering.{adds_up}
+use Rattle.grammar_laws.proofs.Raising.{raised_by_spells, files_by_spell}
+use Rattle.grammar_laws.proofs.Undoing.{raised_by_apart}
+use Rattle.grammar_laws.proofs.depth_law.raised_declarations_are_the_same.Goals as goal
 
 pub returns-clause-levels : goal.returns-clause-levels
 returns-clause-levels c = adds_up

@@ -1,6 +1,6 @@
 use Rattle.std.specs.Prelude.{length}
-use Rattle.spoc_parser.proofs.Runs.{file_sound, file_some, file_longest, file_whole, file_spelled}
-use Rattle.spoc_parser.proofs.laws.runs_are_longest.Goals as goal
+use Rattle.grammar_laws.proofs.Runs.{file_sound, file_some, file_longest, file_whole, file_spelled}
+use Rattle.grammar_laws.proofs.laws.runs_are_longest.Goals as goal
 
 pub returns-clause-some : goal.returns-clause-some
 returns-clause-some c = λ depth toks. file_some depth toks

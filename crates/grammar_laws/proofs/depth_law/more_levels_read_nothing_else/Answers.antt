@@ -1,7 +1,7 @@
-use Rattle.spoc_parser.proofs.Spelled.{decl_in_sound}
-use Rattle.spoc_parser.proofs.Taken.{decl_in_takes}
-use Rattle.spoc_parser.proofs.Deeper.{AllSpelled, AllRead, runs_are_the_same}
-use Rattle.spoc_parser.proofs.depth_law.more_levels_read_nothing_else.Goals as goal
+use Rattle.grammar_laws.proofs.Spelled.{decl_in_sound}
+use Rattle.grammar_laws.proofs.Taken.{decl_in_takes}
+use Rattle.grammar_laws.proofs.Deeper.{AllSpelled, AllRead, runs_are_the_same}
+use Rattle.grammar_laws.proofs.depth_law.more_levels_read_nothing_else.Goals as goal
 
 spelled : AllSpelled
 spelled depth toks rest decl h = (decl_in_sound depth).fronts toks rest decl h

@@ -9,7 +9,7 @@ use Rattle.spoc_parser.specs.Phrases.{Phrase, ◌then◌, ◌or◌, sign, key, a
 use Rattle.spoc_parser.specs.Grammar.{SpellsDesc, SpellsIdle, setting, body, body_with, SpellsHostItem, SpellsNatItem, SpellsNetItem, SpellsIfaceItem, SpellsRouterItem, SpellsAreaItem, SpellsAnyItem, SpellsProto, SpellsProtoItem, SpellsTermOf, mark, SpellsFurther, SpellsInter, SpellsSetIn, SpellsRule, SpellsDecl, SpellsDeclIn}
 use Rattle.spoc_parser.specs.Readers.{Reader, then_read, ◌>>=◌, done, past, at_sign, read_named}
 use Rattle.spoc_parser.specs.Reading.{read_desc, no_desc, read_desc_part, idle_of, read_list_idle, read_value_idle, read_flag_idle, read_idle, read_setting, read_at_network, read_parts, read_body, read_opening, read_host_ip, read_host_range, read_host_item, read_nat_item, read_net_ip, read_host, read_nat, read_net_item, read_iface_ip, read_hardware, read_bind_nat, read_iface_item, read_iface_body, read_iface, no_value, read_filter, read_managed, read_model, read_routing, read_router_item, read_anchor, read_border, read_area_item, read_link, read_any_ip, read_any_item, read_tcp, read_udp, read_icmp, read_number, read_proto, read_proto_item, read_bracket, no_prefix, read_inside, read_anys, read_named_term, read_term_of, read_signed, read_other, no_other, read_inter, read_set_in, read_side, read_prts, rule_of, read_rule, read_rules, no_idle, read_group, read_protocol, read_protogroup, read_restriction, read_service, read_decl, read_decl_in}
-use Rattle.spoc_parser.proofs.Found.{Fronts, Sound, Behind, then_some, parts, in_turn, bind_sound, last_sound, more_sound, if_sound, past_sound, done_sound, refuse_sound, sign_shape, key_shape, sign_sound, key_sound, text_sound, word_sound, named_sound, port_sound, spread_sound, spread_or_none_sound, unless_sound, until_sound, listed_sound, listed_open_sound, further_sound}
+use Rattle.grammar_laws.proofs.Found.{Fronts, Sound, Behind, then_some, parts, in_turn, bind_sound, last_sound, more_sound, if_sound, past_sound, done_sound, refuse_sound, sign_shape, key_shape, sign_sound, key_sound, text_sound, word_sound, named_sound, port_sound, spread_sound, spread_or_none_sound, unless_sound, until_sound, listed_sound, listed_open_sound, further_sound}
 
 -- ---- phrases put together
 

@@ -7,7 +7,7 @@ ghost use Rattle.spoc_parser.specs.Grammar.{SpellsDeclIn, SpellsFile};
 ghost use Rattle.token_checks.specs.Places.{NonePasses};
 ghost use Rattle.token_checks.specs.Nesting.{is_too_deep_at};
 ghost use Rattle.spoc_parser.specs.Files.{run_of};
-ghost use Rattle.spoc_parser.specs.Levels.{level_past, most_set_levels, above, raised_by, read_with};
+ghost use Rattle.grammar_laws.specs.Levels.{level_past, most_set_levels, above, raised_by, read_with};
 
 /// A declaration closes the brackets that it opens: behind it the level is what it was in front of it.
 pub fn declarations_close_their_brackets()

@@ -1,6 +1,6 @@
-use Rattle.spoc_parser.proofs.Taken.{decl_in_takes}
-use Rattle.spoc_parser.proofs.Runs.{decl_alone, file_alone}
-use Rattle.spoc_parser.proofs.laws.declarations_are_read.Goals as goal
+use Rattle.grammar_laws.proofs.Taken.{decl_in_takes}
+use Rattle.grammar_laws.proofs.Runs.{decl_alone, file_alone}
+use Rattle.grammar_laws.proofs.laws.declarations_are_read.Goals as goal
 
 pub returns-clause-read : goal.returns-clause-read
 returns-clause-read c = λ depth front rest decl p. (decl_in_takes depth decl).takes front rest p tt

@@ -5,7 +5,7 @@ use Rattle.std.specs.Prelude.{codes}
 use Rattle.spoc_parser.specs.Trees.{network, host, port, group, aggregate, area, user, nets, hosts, anys, SetIn, network_decl, router_decl, group_decl, area_decl, aggregate_decl, protocol_decl, protogroup_decl, restriction_decl, service_decl}
 use Rattle.spoc_parser.specs.Phrases.{Phrase, ◌then◌, sign, perhaps, many, some, further, listed, listed_open}
 use Rattle.spoc_parser.specs.Grammar.{SpellsTermOf, SpellsFurther, SpellsInter, SpellsSet, SpellsNone, SpellsSetIn, SpellsRule, SpellsDecl, SpellsDeclIn, SpellsFile}
-use Rattle.spoc_parser.specs.Levels.{term_with, further_with, inter_with, set_with, no_set, raised, rule_with, decl_with, raised_decl, above, raised_by}
+use Rattle.grammar_laws.specs.Levels.{term_with, further_with, inter_with, set_with, no_set, raised, rule_with, decl_with, raised_decl, above, raised_by}
 
 -- what is changed by f spells what it spelled before
 abbrev pub Keeps : {A B : Type 0} → (A → B) → (A → Phrase) → (B → Phrase) → Type 0

@@ -8,10 +8,10 @@ use Rattle.spoc_parser.specs.Grammar.{SpellsDeclIn}
 use Rattle.spoc_parser.specs.Readers.{with_first}
 use Rattle.spoc_parser.specs.Reading.{read_decl_in}
 use Rattle.spoc_parser.specs.Files.{goes_on, read_run, run_of}
-use Rattle.spoc_parser.specs.Levels.{most_set_levels, above, raised_by, read_with}
-use Rattle.spoc_parser.proofs.Balanced.{decl_in_even}
-use Rattle.spoc_parser.proofs.Raising.{raised_by_spells}
-use Rattle.spoc_parser.proofs.Lowering.{Within, none_too_deep, part_within, decl_by_lowers}
+use Rattle.grammar_laws.specs.Levels.{most_set_levels, above, raised_by, read_with}
+use Rattle.grammar_laws.proofs.Balanced.{decl_in_even}
+use Rattle.grammar_laws.proofs.Raising.{raised_by_spells}
+use Rattle.grammar_laws.proofs.Lowering.{Within, none_too_deep, part_within, decl_by_lowers}
 
 -- what is read is spelled
 abbrev pub AllSpelled : Type 0

@@ -9,10 +9,10 @@ use Rattle.spoc_parser.specs.Grammar.{SpellsDeclIn, SpellsFile}
 use Rattle.spoc_parser.specs.Readers.{Reader, with_first}
 use Rattle.spoc_parser.specs.Reading.{read_decl_in}
 use Rattle.spoc_parser.specs.Files.{goes_on, read_run, run_of}
-use Rattle.spoc_parser.proofs.Found.{Fronts, Sound, parts, first_some, none_taken, in_turn}
-use Rattle.spoc_parser.proofs.Spelled.{decl_in_sound}
-use Rattle.spoc_parser.proofs.Only.{Takes, Always, Tells, has_token, size_of}
-use Rattle.spoc_parser.proofs.Taken.{decl_in_takes, decl_in_some}
+use Rattle.grammar_laws.proofs.Found.{Fronts, Sound, parts, first_some, none_taken, in_turn}
+use Rattle.grammar_laws.proofs.Spelled.{decl_in_sound}
+use Rattle.grammar_laws.proofs.Only.{Takes, Always, Tells, has_token, size_of}
+use Rattle.grammar_laws.proofs.Taken.{decl_in_takes, decl_in_some}
 
 module _ {A : Type 0} (spells : A → Phrase) (read : Reader A) (s : Sound spells read) where
   run_sound : (n : ℕ) → Sound (many spells) (read_run read n)

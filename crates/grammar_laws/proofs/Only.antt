@@ -15,7 +15,7 @@ use Rattle.spoc_parser.specs.Texts.{is_empty, is_name_byte, is_name, fits, cut_a
 use Rattle.spoc_parser.specs.Phrases.{Phrase, ◌then◌, ◌or◌, nothing, where_true, word_token, sign, key, a_word, named, at_port, a_text, spread, perhaps, many, further, listed, listed_open}
 use Rattle.spoc_parser.specs.Readers.{Reader, then_read, ◌>>=◌, done, past, at_sign, at_word, step_where, read_sign, read_key, lexeme_of, read_word, read_text, lexeme_behind, read_named, port_at, port_of_cut, with_rest, read_port, word_count, words_of, are_spread, read_spread, read_spread_or_none, read_unless, with_first, read_up_to, read_until, read_commas, read_further, read_listed, never_ends, list_ends}
 use Rattle.spoc_parser.specs.Grammar.{spread_or_none}
-use Rattle.spoc_parser.proofs.Found.{and_true, one_before, sign_shape}
+use Rattle.grammar_laws.proofs.Found.{and_true, one_before, sign_shape}
 
 -- such a phrase is read as this value, where F holds of the tokens that follow
 pub record Takes {A : Type 0} (P : Phrase) (F : List Tok → Type 0) (read : Reader A) (x : A) : Type 0 where

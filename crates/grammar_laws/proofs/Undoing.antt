@@ -1,7 +1,7 @@
 -- Two trees that are one with a level more are one.
 use Rattle.std.proofs.Common.{◌≡◌, ℕ, zero, suc, Bool, List, [], ◌∷◌, Option, Some, None, map, option_map, refl, sym, ap, ◌∙◌}
 use Rattle.spoc_parser.specs.Trees.{TermOf, network, host, port, group, aggregate, area, user, nets, hosts, anys, InterOf, SetIn, RuleOf, DeclOf, network_decl, router_decl, group_decl, area_decl, aggregate_decl, protocol_decl, protogroup_decl, restriction_decl, service_decl, DeclIn, ProtoItem}
-use Rattle.spoc_parser.specs.Levels.{term_with, further_with, inter_with, no_set, raised, rule_with, decl_with, raised_decl, above, raised_by}
+use Rattle.grammar_laws.specs.Levels.{term_with, further_with, inter_with, no_set, raised, rule_with, decl_with, raised_decl, above, raised_by}
 
 -- g gives back what f changes
 abbrev Undoes : {A B : Type 0} → (A → B) → (B → Option A) → Type 0

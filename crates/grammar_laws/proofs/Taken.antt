@@ -11,9 +11,9 @@ use Rattle.spoc_parser.specs.Phrases.{Phrase, ◌then◌, ◌or◌, sign, key, a
 use Rattle.spoc_parser.specs.Grammar.{SpellsDesc, SpellsIdle, setting, body, body_with, SpellsHostItem, SpellsNatItem, SpellsNetItem, SpellsIfaceItem, SpellsRouterItem, SpellsAreaItem, SpellsAnyItem, SpellsProto, SpellsProtoItem, SpellsTermOf, mark, SpellsFurther, SpellsInter, SpellsSet, SpellsSetIn, SpellsRule, SpellsDecl, SpellsDeclIn}
 use Rattle.spoc_parser.specs.Readers.{Reader, then_read, ◌>>=◌, done, past, at_sign, at_key, at_kind, at_form, at_word, is_word, is_sign, read_named, list_ends}
 use Rattle.spoc_parser.specs.Reading.{read_desc, no_desc, read_desc_part, idle_of, read_list_idle, read_value_idle, read_flag_idle, read_idle, read_setting, read_at_network, read_parts, read_body, read_opening, read_host_item, read_nat_item, read_net_item, read_iface_item, read_iface_body, no_value, read_filter, read_router_item, read_area_item, read_any_item, read_proto, read_proto_item, read_bracket, no_prefix, read_inside, read_anys, read_named_term, read_term_of, read_signed, read_other, no_other, read_others, read_inter, read_set, read_set_in, read_side, read_prts, read_rule, read_rules, no_idle, read_group, read_protocol, read_protogroup, read_restriction, read_service, read_decl, read_decl_in}
-use Rattle.spoc_parser.proofs.Found.{same_bytes, and_true, kind_word}
-use Rattle.spoc_parser.proofs.Spelled.{side, to_items}
-use Rattle.spoc_parser.proofs.Only.{Takes, Always, Where, Tells, then_tells, or_tells, where_tells, many_tells, perhaps_tells, listed_tells, word_at, by_key, by_sign, by_name, key_tells, sign_tells, word_tells, named_tells, port_tells, follow_takes, then_takes, last_takes, less_takes, absent_takes, or_takes, yes_takes, no_takes, same_text, sign_takes, key_takes, text_takes, word_takes, named_takes, port_takes, spread_takes, spread_or_none_takes, unless_takes, has_token, until_takes, further_takes, listed_takes, listed_open_takes}
+use Rattle.grammar_laws.proofs.Found.{same_bytes, and_true, kind_word}
+use Rattle.grammar_laws.proofs.Spelled.{side, to_items}
+use Rattle.grammar_laws.proofs.Only.{Takes, Always, Where, Tells, then_tells, or_tells, where_tells, many_tells, perhaps_tells, listed_tells, word_at, by_key, by_sign, by_name, key_tells, sign_tells, word_tells, named_tells, port_tells, follow_takes, then_takes, last_takes, less_takes, absent_takes, or_takes, yes_takes, no_takes, same_text, sign_takes, key_takes, text_takes, word_takes, named_takes, port_takes, spread_takes, spread_or_none_takes, unless_takes, has_token, until_takes, further_takes, listed_takes, listed_open_takes}
 
 -- ---- phrases taken apart
 

@@ -7,7 +7,7 @@ use Rattle.spoc_lexer.specs.declared.token.TokenKind.TheVariants.{Sign}
 use Rattle.spoc_parser.specs.declared.forms.Form.{Form}
 use Rattle.spoc_parser.specs.declared.forms.Form.TheVariants.{Any, Name, Address, Prefix, Number, Range, Ports, Icmp, Filter, Routing, Note, ListKey, ValueKey, Flag}
 use Rattle.token_checks.specs.Nesting.{level_behind}
-use Rattle.spoc_parser.specs.Levels.{level_past}
+use Rattle.grammar_laws.specs.Levels.{level_past}
 use Rattle.spoc_parser.specs.Trees.{Lexeme, network, host, port, group, aggregate, area, user, nets, hosts, anys, host_ip, host_range, host_idle, nat_ip, net_ip, net_host, net_nat, net_idle, iface_ip, iface_hardware, iface_bind_nat, iface_idle, router_managed, router_model, router_routing, router_iface, router_idle, area_anchor, area_border, area_idle, any_link, any_ip, any_idle, proto_ip, proto_tcp, proto_udp, proto_icmp, proto_number, one_proto, a_protocol, a_protogroup, network_decl, router_decl, group_decl, area_decl, aggregate_decl, protocol_decl, protogroup_decl, restriction_decl, service_decl}
 use Rattle.spoc_parser.specs.Phrases.{Phrase, ◌then◌, ◌or◌, nothing, never, where_true, word_token, sign, key, a_word, named, at_port, a_text, spread, perhaps, many, some, further, listed, listed_open, single, none_of}
 use Rattle.spoc_parser.specs.Grammar.{SpellsDesc, SpellsIdle, setting, body, body_with, SpellsHostItem, SpellsNatItem, SpellsNetItem, SpellsIfaceItem, SpellsRouterItem, SpellsAreaItem, SpellsAnyItem, spread_or_none, SpellsProto, SpellsProtoItem, SpellsTermOf, mark, SpellsFurther, SpellsInter, SpellsSet, SpellsNone, SpellsSetIn, SpellsRule, SpellsDecl, SpellsDeclIn, SpellsFile}

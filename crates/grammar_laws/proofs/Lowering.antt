@@ -7,8 +7,8 @@ use Rattle.token_checks.specs.Nesting.{most_levels, level_behind, opens_beyond, 
 use Rattle.spoc_parser.specs.Trees.{network, host, port, group, aggregate, area, user, nets, hosts, anys, network_decl, router_decl, group_decl, area_decl, aggregate_decl, protocol_decl, protogroup_decl, restriction_decl, service_decl, DeclIn}
 use Rattle.spoc_parser.specs.Phrases.{Phrase, ◌then◌, sign, perhaps, many, some, further, listed, listed_open}
 use Rattle.spoc_parser.specs.Grammar.{SpellsIdle, SpellsTermOf, SpellsFurther, SpellsInter, SpellsSet, SpellsSetIn, SpellsRule, SpellsDecl, SpellsDeclIn, SpellsFile}
-use Rattle.spoc_parser.specs.Levels.{level_past, most_set_levels, term_with, further_with, inter_with, set_with, raised, rule_with, decl_with, raised_decl, above, raised_by}
-use Rattle.spoc_parser.proofs.Balanced.{IsEven, AreEven, sign_token, named_even, key_even, sign_even, comma_even, mark_even, desc_part_even, inside_part_even, many_even, idle_even, term_even, other_even, inter_even, set_in_even, rule_even, decl_in_even, file_even}
+use Rattle.grammar_laws.specs.Levels.{level_past, most_set_levels, term_with, further_with, inter_with, set_with, raised, rule_with, decl_with, raised_decl, above, raised_by}
+use Rattle.grammar_laws.proofs.Balanced.{IsEven, AreEven, sign_token, named_even, key_even, sign_even, comma_even, mark_even, desc_part_even, inside_part_even, many_even, idle_even, term_even, other_even, inter_even, set_in_even, rule_even, decl_in_even, file_even}
 
 -- no bracket opens a level too many, from this level on
 abbrev pub Within : List Tok → ℕ → Type 0

@@ -1,0 +1,10 @@
+pub mod Found
+pub mod Spelled
+pub mod Only
+pub mod Taken
+pub mod Runs
+pub mod Balanced
+pub mod Raising
+pub mod Lowering
+pub mod Undoing
+pub mod Deeper
