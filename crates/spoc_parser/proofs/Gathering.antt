@@ -1,5 +1,5 @@
 -- Loops that gather items, against readers that do so by a count.
-use Rattle.std.proofs.Common.{◌≡◌, ◌≤◌, ◌<◌, ◌+◌, ◌-◌, ℕ, zero, suc, Bool, true, false, List, [], ◌∷◌, ◌++◌, Option, Some, None, Result, Ok, Err, length, refl, sym, ap, subst, ◌∙◌, arith, append_assoc, if◌then◌else◌}
+use Rattle.std.proofs.Common.{◌≡◌, ◌+◌, ℕ, zero, suc, Bool, true, false, List, [], ◌∷◌, ◌++◌, Option, Some, None, Result, Ok, Err, length, refl, sym, ap, subst, ◌∙◌, arith, append_assoc, if◌then◌else◌}
 use Rattle.std.specs.Prelude.{codes}
 use Rattle.std.specs.List.{AllZip}
 use Rattle.std.proofs.lemmas.List.{append-nil, length_push}
@@ -24,10 +24,13 @@ at_start R read found k all e h = ([], h, λ n. let same : n ≡ n + k = omega a
 
 -- one item more
 pub one_more : {A X : Type 0} (R : List A → List X → Type 0) (read : ℕ → Reader (List A)) (found now : List X) (k k' : ℕ) (left rest all : List Tok) (a : A) → k' ≡ k + 1 → ((n : ℕ) → read (suc n) left ≡ with_first a (read n rest)) → ((xs : List A) → R xs found → R (xs ++ a ∷ []) now) → SoFar R read found k left all → SoFar R read now k' rest all
-one_more R read found now k k' left rest all a e step more (xs, held, goes) =
-    (xs ++ a ∷ [], more xs held, λ n.
-        let count : suc n + k ≡ n + k' = omega arith in
-        after_first xs a (read n rest) ∙ ap (after xs) (sym (step n)) ∙ goes (suc n) ∙ ap (λ m. read m all) count)
+one_more R read found now k k' left rest all a e step more (xs, held, goes) = (
+  xs ++ a ∷ [],
+  more xs held,
+  λ n.
+      let count : suc n + k ≡ n + k' = omega arith in
+      after_first xs a (read n rest) ∙ ap (after xs) (sym (step n)) ∙ goes (suc n) ∙ ap (λ m. read m all) count,
+)
 
 -- the end
 pub at_end : {A X V : Type 0} (R : List A → List X → Type 0) (items : V → List X) (read : ℕ → Reader (List A)) (v : V) (k n : ℕ) (left rest all : List Tok) → n + k ≡ length all → read n left ≡ Some ([], rest) → SoFar R read (items v) k left all → Gives (λ xs w. R xs (items w)) (Ok v) rest (read (length all) all)

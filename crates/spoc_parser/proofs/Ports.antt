@@ -1,5 +1,5 @@
 -- A word that names an interface.
-use Rattle.std.proofs.Common.{refl, ◌≡◌, ◌+◌, ℕ, true, List, ◌∷◌, Option, Some, None, Ok, drop, sym, subst}
+use Rattle.std.proofs.Common.{refl, ◌≡◌, ◌+◌, ℕ, true, List, ◌∷◌, Option, Some, None, Ok, drop, subst}
 use Rattle.std.specs.Prelude.{codes}
 use Rattle.spoc_lexer.specs.Tokens.{Tok}
 use Rattle.spoc_ast.specs.declared.word.PortName.{PortName}

@@ -1,9 +1,8 @@
 -- Tokens that end below 2^32, by a test.
 use Rattle.std.proofs.Common.{◌≡◌, ◌<◌, ◌+◌, ◌^◌, ℕ, suc, true, List, [], ◌∷◌, length, nat_lt, refl, arith}
-use Rattle.std.specs.Prelude.{◌&&◌}
-use Rattle.std.specs.List.{All, list_all}
+use Rattle.std.specs.List.{list_all}
 use Rattle.spoc_lexer.specs.declared.token.Token.{Token}
-use Rattle.spoc_parser.specs.Reach.{IsInReach, AreInReach, is_in_reach}
+use Rattle.spoc_parser.specs.Reach.{AreInReach, is_in_reach}
 
 lt_is : (a b : ℕ) → a < b → nat_lt a b ≡ true
 lt_is a b h = grind (arith, h)

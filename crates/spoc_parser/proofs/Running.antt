@@ -1,11 +1,11 @@
 -- The run of declarations, as a loop gathers it.
-use Rattle.std.proofs.Common.{◌≡◌, ◌+◌, ◌-◌, arith, ℕ, zero, suc, List, [], ◌∷◌, ◌++◌, Option, Some, None, Ok, length, refl, sym, ap, subst, ◌∙◌}
+use Rattle.std.proofs.Common.{◌≡◌, ◌+◌, arith, ℕ, zero, suc, List, [], ◌∷◌, ◌++◌, Option, Some, None, Ok, length, refl, sym, ap, subst, ◌∙◌}
 use Rattle.std.specs.List.{AllZip}
 use Rattle.std.proofs.lemmas.List.{length_push}
 use Rattle.spoc_lexer.specs.Tokens.{Tok}
 use Rattle.spoc_parser.specs.declared.fail.Stop.{Stop}
 use Rattle.spoc_parser.specs.declared.fail.Stop.TheVariants.{Unread}
-use Rattle.spoc_parser.specs.Readers.{Reader, with_first}
+use Rattle.spoc_parser.specs.Readers.{Reader}
 use Rattle.spoc_parser.specs.Reading.{read_decl_in}
 use Rattle.spoc_parser.specs.Files.{read_run, goes_on}
 use Rattle.spoc_parser.specs.Seen.{SoFar, Gives, FailsAs}

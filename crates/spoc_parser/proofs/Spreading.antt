@@ -1,7 +1,6 @@
 -- Texts that are spread over words.
-use Rattle.std.proofs.Common.{◌≡◌, ◌≤◌, ◌<◌, ◌+◌, ◌-◌, ℕ, zero, suc, Bool, true, false, List, [], ◌∷◌, ◌++◌, Option, Some, None, Ok, Err, length, take, drop, map, refl, sym, ap, subst, ◌∙◌, arith, append_assoc}
+use Rattle.std.proofs.Common.{◌≡◌, ◌≤◌, ◌<◌, ◌+◌, ◌-◌, ℕ, zero, suc, Bool, true, false, List, [], ◌∷◌, ◌++◌, Some, Ok, length, take, drop, map, refl, sym, ap, subst, ◌∙◌, arith, append_assoc}
 use Rattle.std.specs.Prelude.{◌&&◌, ◌||◌, get_or}
-use Rattle.std.specs.List.{AllZip}
 use Rattle.std.proofs.lemmas.List.{append-nil}
 use Rattle.spoc_lexer.specs.Tokens.{Tok}
 use Rattle.spoc_ast.specs.declared.word.Word.{Word}
@@ -11,9 +10,9 @@ use Rattle.spoc_parser.specs.declared.fail.Stop.TheVariants.{Unread}
 use Rattle.spoc_parser.specs.declared.lists.End.TheVariants.{Words}
 use Rattle.spoc_parser.specs.Trees.{Lexeme}
 use Rattle.spoc_parser.specs.Texts.{is_joint, last_joins, first_joins, are_joined, joined, fits}
-use Rattle.spoc_parser.specs.Readers.{is_word, lexeme_of, word_count, words_of, texts_of, are_spread, read_up_to, read_word, read_spread, with_first}
+use Rattle.spoc_parser.specs.Readers.{is_word, lexeme_of, word_count, words_of, texts_of, read_up_to, read_word, read_spread, with_first}
 use Rattle.spoc_parser.specs.Ends.{is_at}
-use Rattle.spoc_parser.specs.Seen.{Gives, FailsAs, IsWord}
+use Rattle.spoc_parser.specs.Seen.{Gives, FailsAs}
 use Rattle.spoc_parser.specs.SeenParts.{AreWords, written}
 
 pub last_is : (text : List ℕ) → 1 ≤ length text → is_joint (get_or text (length text - 1) 0) ≡ last_joins text
@@ -36,7 +35,7 @@ joins_at words zero d e b h l k = absurd (omega (arith, h))
 joins_at words (suc j) d e b h l k =
     let is : suc j - 1 ≡ j = omega arith in
     subst (λ i. are_joined (drop i (written words)) ≡ (b && are_joined (drop (suc j) (written words)))) (sym is)
-      (step_at words j d e b l (subst (λ i. b ≡ (last_joins (get_or words i d).text.now || first_joins (get_or words (suc j) e).text.now)) is k))
+    (step_at words j d e b l (subst (λ i. b ≡ (last_joins (get_or words i d).text.now || first_joins (get_or words (suc j) e).text.now)) is k))
 
 -- no seam is left
 pub joins_end : (words : List Word) (j : ℕ) → length words ≤ suc j → are_joined (drop j (written words)) ≡ true

@@ -8,7 +8,6 @@ use Rattle.spoc_parser.specs.Texts.{is_name, fits, are_joined, joined}
 
 infixr 4 ◌or◌
 infixr 5 ◌then◌
-
 -- some lists of tokens
 abbrev pub Phrase : Type 1
 Phrase = List Tok → Type 0

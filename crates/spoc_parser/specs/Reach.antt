@@ -1,5 +1,5 @@
 -- Offsets of tokens.
-use Rattle.std.specs.Prelude.{ℕ, ◌+◌, ◌^◌, ◌<◌, Bool, nat_lt, List, length}
+use Rattle.std.specs.Prelude.{◌+◌, ◌^◌, ◌<◌, Bool, nat_lt, List, length}
 use Rattle.std.specs.List.{All}
 use Rattle.spoc_lexer.specs.declared.token.Token.{Token}
 

@@ -10,7 +10,6 @@ use Rattle.spoc_parser.specs.Trees.{Lexeme, PortItem}
 use Rattle.spoc_parser.specs.Texts.{is_name, fits, begins_with, cut_at, are_joined, joined}
 
 infixr 3 ◌>>=◌
-
 -- a value and the tokens behind it, where they begin with one
 abbrev pub Reader : Type 0 → Type 0
 Reader A = List Tok → Option (A × List Tok)

@@ -1,5 +1,5 @@
 -- The declarations of the code and their parts, as plain ones.
-use Rattle.std.specs.Prelude.{◌≡◌, ℕ, List, [], ◌∷◌, map, Option, Some, None}
+use Rattle.std.specs.Prelude.{ℕ, List, map}
 use Rattle.std.specs.List.{AllZip}
 use Rattle.spoc_ast.specs.declared.word.Word.{Word}
 use Rattle.spoc_ast.specs.declared.set.SetTree.{SetTree}
@@ -25,7 +25,7 @@ use Rattle.spoc_ast.specs.declared.decl.AnyPart.TheVariants as AnyParts
 use Rattle.spoc_ast.specs.declared.decl.Simple.TheVariants as Simples
 use Rattle.spoc_ast.specs.declared.decl.Prt.TheVariants as Prts
 use Rattle.spoc_ast.specs.declared.decl.Decl.TheVariants as Decls
-use Rattle.spoc_parser.specs.Trees.{Lexeme, PortItem, IdleItem, HostItem, host_ip, host_range, host_idle, NatItem, nat_ip, NetItem, net_ip, net_host, net_nat, net_idle, IfaceItem, iface_ip, iface_hardware, iface_bind_nat, iface_idle, RouterItem, router_managed, router_model, router_routing, router_iface, router_idle, AreaItem, area_anchor, area_border, area_idle, AnyItem, any_link, any_ip, any_idle, Proto, proto_ip, proto_tcp, proto_udp, proto_icmp, proto_number, ProtoItem, one_proto, a_protocol, a_protogroup, RuleOf, DeclOf, network_decl, router_decl, group_decl, area_decl, aggregate_decl, protocol_decl, protogroup_decl, restriction_decl, service_decl}
+use Rattle.spoc_parser.specs.Trees.{Lexeme, IdleItem, HostItem, host_ip, host_range, host_idle, NatItem, nat_ip, NetItem, net_ip, net_host, net_nat, net_idle, IfaceItem, iface_ip, iface_hardware, iface_bind_nat, iface_idle, RouterItem, router_managed, router_model, router_routing, router_iface, router_idle, AreaItem, area_anchor, area_border, area_idle, AnyItem, any_link, any_ip, any_idle, Proto, proto_ip, proto_tcp, proto_udp, proto_icmp, proto_number, ProtoItem, one_proto, a_protocol, a_protogroup, RuleOf, DeclOf, network_decl, router_decl, group_decl, area_decl, aggregate_decl, protocol_decl, protogroup_decl, restriction_decl, service_decl}
 use Rattle.spoc_parser.specs.Seen.{IsWord, IsPort, IsPerhaps}
 
 abbrev pub AreWords : ℕ → List Lexeme → List Word → Type 0

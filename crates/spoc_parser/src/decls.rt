@@ -15,7 +15,12 @@ use spoc_ast::{Decl, PortName, RuleTree, SetTree, Word};
 
 impl<'a> Source<'a> {
     // A set outside brackets, where `user` may stand or not.
-    fn objects(self, tokens: &mut Cursor<'a, '_>, user: bool, depth: u8) -> Result<SetTree<'a>, Stop>
+    fn objects(
+        self,
+        tokens: &mut Cursor<'a, '_>,
+        user: bool,
+        depth: u8,
+    ) -> Result<SetTree<'a>, Stop>
         ensures gives { Gives (IsSetIn self.entry.file depth) result (toks_of tokens.new.rest.now) (read_set_in user depth false (toks_of tokens.old.rest.now)) }
         ensures shorter { OnOk result (length tokens.new.rest.now < length tokens.old.rest.now) }
     {
@@ -23,7 +28,13 @@ impl<'a> Source<'a> {
     }
 
     // A word that is set to a set.
-    fn side(self, tokens: &mut Cursor<'a, '_>, name: &[u8], user: bool, depth: u8) -> Result<SetTree<'a>, Stop>
+    fn side(
+        self,
+        tokens: &mut Cursor<'a, '_>,
+        name: &[u8],
+        user: bool,
+        depth: u8,
+    ) -> Result<SetTree<'a>, Stop>
         ensures gives { Gives (IsSetIn self.entry.file depth) result (toks_of tokens.new.rest.now) (read_side name.now (read_set_in user depth false) (toks_of tokens.old.rest.now)) }
         ensures shorter { OnOk result (length tokens.new.rest.now < length tokens.old.rest.now) }
     {
@@ -118,7 +129,11 @@ impl<'a> Source<'a> {
     }
 
     // A set, where `;` does not come next.
-    fn group_objects(self, tokens: &mut Cursor<'a, '_>, depth: u8) -> Result<Option<SetTree<'a>>, Stop>
+    fn group_objects(
+        self,
+        tokens: &mut Cursor<'a, '_>,
+        depth: u8,
+    ) -> Result<Option<SetTree<'a>>, Stop>
         ensures gives { Gives (IsPerhaps (IsSetIn self.entry.file depth)) result (toks_of tokens.new.rest.now) (read_unless (at_sign (codes ";")) (read_set_in false depth false) (toks_of tokens.old.rest.now)) }
         ensures no_longer { OnOk result (length tokens.new.rest.now ≤ length tokens.old.rest.now) }
     {

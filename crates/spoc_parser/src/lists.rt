@@ -27,7 +27,9 @@ pub enum End {
 // What a list of a tree is made of.
 pub trait Part<'a>: Copy {
     ghost Plain: { Type 0 };
+
     ghost reads: { List Tok → Option (Plain × List Tok) };
+
     ghost is: { ℕ → Plain → Self → Type 0 };
 
     fn part(source: Source<'a>, tokens: &mut Cursor<'a, '_>) -> Result<Self, Stop>

@@ -39,7 +39,11 @@ impl<'a> Source<'a> {
 }
 
 // The same as `parse`, where sets have so many levels at most.
-fn parse_within<'a>(source: Source<'a>, depth: u8, tokens: &[Token<'a>]) -> Result<File<'a>, ParseFail>
+fn parse_within<'a>(
+    source: Source<'a>,
+    depth: u8,
+    tokens: &[Token<'a>],
+) -> Result<File<'a>, ParseFail>
     requires { AreInReach tokens.now }
     ensures ok { IfOk result (λ tree. Ran (IsDecl source.entry.file (IsSetIn source.entry.file depth)) tree.decls.now [] (run_of depth (toks_of tokens.now))) }
     ensures err { IfErr result (λ e. FailsAt e (run_of depth (toks_of tokens.now))) }
@@ -65,4 +69,105 @@ pub fn parse<'a>(arena: &'a Bump, file: u32, tokens: &[Token<'a>]) -> Result<Fil
     ensures err { IfErr result (λ e. FailsAt e (run_of most_levels (toks_of tokens.now))) }
 {
     parse_within(Source { arena, file }, MOST_LEVELS, tokens)
+}
+
+#[cfg(test)]
+mod tests {
+    use super::parse;
+    use crate::fail::ParseFail;
+    use crate::within::are_in_reach;
+    use bumpalo::Bump;
+    use spoc_lexer::tokens;
+    use std::alloc::Global;
+    use std::test::Fail;
+
+    // The offset of the fault of a text, where it has one.
+    fn fault(alloc: Global, text: &[u8]) -> Result<Option<u32>, Fail> {
+        if text.len() > 4194304 {
+            return Ok(Some(u32::MAX));
+        }
+        let found = tokens(alloc, text)?;
+        if !are_in_reach(&found) {
+            return Ok(Some(u32::MAX));
+        }
+        let arena = Bump::new(alloc);
+        match parse(&arena, 7, &found) {
+            Ok(_) => Ok(None),
+            Err(ParseFail::Syntax(at)) => Ok(Some(at)),
+            Err(fail) => Err(fail.into()),
+        }
+    }
+
+    // Each row of the grammar once, and texts that no row allows.
+    #[test]
+    fn each_row_of_the_grammar(rt: HostRuntime) -> Result<(), Fail> {
+        let good: [&[u8]; 16] = [
+            b"".as_slice(),
+            b"network:n-1_A = {}".as_slice(),
+            b"network:n = { description = # a { b\n ip = 10.1.1.0/24; host:h = { ip = 10.1.1.9; } nat:t = { ip = 1.0.0.0/8; } has_subnets; }".as_slice(),
+            b"network:n = { host:h = { range = 10.1.1.1 - 10.1.1.9; owner = a, b; } nat:t = { } }".as_slice(),
+            b"router:r = { description = x\n managed; model = IOS; routing = dynamic; interface:n; interface:m = { ip = 1.2.3.4; hardware = a/0:1.2; bind_nat = s, t; } }".as_slice(),
+            b"router:r = { managed = primary; managed = full; managed = standard; routing = manual; interface:n = {} subnet_of = network:x; }".as_slice(),
+            b"group:g = ;".as_slice(),
+            b"group:g = description = x\n network:n, host:h, interface:r.n, group:h, any:a,;".as_slice(),
+            b"group:g = network:n & ! host:h & group:k, network:[any:[ip = 10.0.0.0/8 & area:a], host:[area:b & !network:n,]];".as_slice(),
+            b"area:a = { anchor = network:n; border = interface:r.n, interface:s.n; multi_owner; }".as_slice(),
+            b"any:a = { description =\n link = network:n; ip = 0.0.0.0/0; overlaps = x; }".as_slice(),
+            b"protocol:p = ip; protocol:p = tcp, overlaps, no_check_supernet_rules; protocol:p = tcp 80 - 90 : 1; protocol:p = udp 1:2-3;".as_slice(),
+            b"protocol:p = icmp; protocol:p = icmp 3 / 0; protocol:p = icmp 8; protocol:p = proto 50;".as_slice(),
+            b"protocolgroup:g = protocol:p, protocolgroup:h, tcp 0, ip,;".as_slice(),
+            b"pathrestriction:p = description = x\n interface:r.n, interface:s.m,;".as_slice(),
+            b"service:s = { description = x\n unknown_owner; has_unenforceable; no_check_supernet_rules; user = network:n; permit src = user; dst = network:[user & host:h]; prt = tcp 80, protocol:p,; permit src = network:n; dst = user; prt = ip; }".as_slice(),
+        ];
+        let bad: [&[u8]; 26] = [
+            b"network:n.m = {}".as_slice(),
+            b"network:n = { ip = 10.1.01.0/24; }".as_slice(),
+            b"network:n = { ip = 10.1.1.0/33; }".as_slice(),
+            b"network:n = { ip = 256.1.1.0/24; }".as_slice(),
+            b"network:n = { ip = 10.1.1/24; }".as_slice(),
+            b"network:n = { host:h = { range = 10.1.1.1 10.1.1.9; } }".as_slice(),
+            b"network:n = { ip = 10.1.1.0/24, 10.1.2.0/24; }".as_slice(),
+            b"router:r = { managed = secondary; }".as_slice(),
+            b"router:r = { interface:n = { bind_nat = s, t,; } }".as_slice(),
+            b"group:g = description = x;".as_slice(),
+            b"group:g = network:n & ;".as_slice(),
+            b"group:g = ! network:n;".as_slice(),
+            b"group:g = network:n,,;".as_slice(),
+            b"group:g = user;".as_slice(),
+            b"group:g = area:a;".as_slice(),
+            b"group:g = network:[network:n;".as_slice(),
+            b"area:a = { border = interface:r.n,; }".as_slice(),
+            b"protocol:p = tcp 8 0;".as_slice(),
+            b"protocol:p = tcp 80:;".as_slice(),
+            b"protocol:p = tcp 080;".as_slice(),
+            b"protocol:p = icmp 3-0;".as_slice(),
+            b"protocol:p = proto;".as_slice(),
+            b"service:s = { user = network:n; }".as_slice(),
+            b"service:s = { user = user; permit src = user; dst = user; prt = ip; }".as_slice(),
+            b"service:s = { user = network:n; permit src = user; prt = ip; }".as_slice(),
+            b"service:s = { user = network:n; permit src = area:a; dst = user; prt = ip; }".as_slice(),
+        ];
+        for (i, text) in good.iter().enumerate() {
+            assert_eq!(rt; fault(rt.alloc(), text)?, None, "row {i}");
+        }
+        for (i, text) in bad.iter().enumerate() {
+            assert_eq!(rt; fault(rt.alloc(), text)?, Some(0), "row {i}");
+        }
+        Ok(())
+    }
+
+    // The offset is that of the token behind the longest run of whole declarations.
+    #[test]
+    fn offsets_of_faults(rt: HostRuntime) -> Result<(), Fail> {
+        let rows: [(&[u8], u32); 4] = [
+            (b";".as_slice(), 0),
+            (b"# x\n group:g = ; }".as_slice(), 17),
+            (b"group:g=;group:h=;network:n={ip=1;}".as_slice(), 18),
+            (b"group:g = ;\n\tdescription = group:h = ;".as_slice(), 13),
+        ];
+        for (text, at) in rows.iter() {
+            assert_eq!(rt; fault(rt.alloc(), text)?, Some(*at), "at {at}");
+        }
+        Ok(())
+    }
 }

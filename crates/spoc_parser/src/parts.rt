@@ -10,7 +10,9 @@ use crate::cursor::{Cursor, Source};
 use crate::fail::Stop;
 use crate::forms::Form;
 use crate::lists::{End, Part};
-use spoc_ast::{AnyPart, AreaPart, HostPart, Idle, IfPart, NatPart, NetPart, PortName, RoutPart, Word};
+use spoc_ast::{
+    AnyPart, AreaPart, HostPart, Idle, IfPart, NatPart, NetPart, PortName, RoutPart, Word,
+};
 
 impl<'a> Source<'a> {
     // `description = TEXT`, where it comes next.
@@ -246,7 +248,9 @@ impl<'a> Source<'a> {
 
 impl<'a> Part<'a> for PortName<'a> {
     ghost Plain = { PortItem };
+
     ghost reads = { read_port };
+
     ghost is = { IsPort };
 
     fn part(source: Source<'a>, tokens: &mut Cursor<'a, '_>) -> Result<Self, Stop> {
@@ -256,7 +260,9 @@ impl<'a> Part<'a> for PortName<'a> {
 
 impl<'a> Part<'a> for Idle<'a> {
     ghost Plain = { IdleItem };
+
     ghost reads = { read_idle };
+
     ghost is = { IsIdle };
 
     fn part(source: Source<'a>, tokens: &mut Cursor<'a, '_>) -> Result<Self, Stop> {
@@ -266,7 +272,9 @@ impl<'a> Part<'a> for Idle<'a> {
 
 impl<'a> Part<'a> for HostPart<'a> {
     ghost Plain = { HostItem };
+
     ghost reads = { read_host_item };
+
     ghost is = { IsHostItem };
 
     fn part(source: Source<'a>, tokens: &mut Cursor<'a, '_>) -> Result<Self, Stop> {
@@ -284,7 +292,9 @@ impl<'a> Part<'a> for HostPart<'a> {
 
 impl<'a> Part<'a> for NatPart<'a> {
     ghost Plain = { NatItem };
+
     ghost reads = { read_nat_item };
+
     ghost is = { IsNatItem };
 
     fn part(source: Source<'a>, tokens: &mut Cursor<'a, '_>) -> Result<Self, Stop> {
@@ -295,7 +305,9 @@ impl<'a> Part<'a> for NatPart<'a> {
 
 impl<'a> Part<'a> for NetPart<'a> {
     ghost Plain = { NetItem };
+
     ghost reads = { read_net_item };
+
     ghost is = { IsNetItem };
 
     fn part(source: Source<'a>, tokens: &mut Cursor<'a, '_>) -> Result<Self, Stop> {
@@ -316,7 +328,9 @@ impl<'a> Part<'a> for NetPart<'a> {
 
 impl<'a> Part<'a> for IfPart<'a> {
     ghost Plain = { IfaceItem };
+
     ghost reads = { read_iface_item };
+
     ghost is = { IsIfaceItem };
 
     fn part(source: Source<'a>, tokens: &mut Cursor<'a, '_>) -> Result<Self, Stop> {
@@ -338,7 +352,9 @@ impl<'a> Part<'a> for IfPart<'a> {
 
 impl<'a> Part<'a> for RoutPart<'a> {
     ghost Plain = { RouterItem };
+
     ghost reads = { read_router_item };
+
     ghost is = { IsRouterItem };
 
     fn part(source: Source<'a>, tokens: &mut Cursor<'a, '_>) -> Result<Self, Stop> {
@@ -363,7 +379,9 @@ impl<'a> Part<'a> for RoutPart<'a> {
 
 impl<'a> Part<'a> for AreaPart<'a> {
     ghost Plain = { AreaItem };
+
     ghost reads = { read_area_item };
+
     ghost is = { IsAreaItem };
 
     fn part(source: Source<'a>, tokens: &mut Cursor<'a, '_>) -> Result<Self, Stop> {
@@ -381,7 +399,9 @@ impl<'a> Part<'a> for AreaPart<'a> {
 
 impl<'a> Part<'a> for AnyPart<'a> {
     ghost Plain = { AnyItem };
+
     ghost reads = { read_any_item };
+
     ghost is = { IsAnyItem };
 
     fn part(source: Source<'a>, tokens: &mut Cursor<'a, '_>) -> Result<Self, Stop> {

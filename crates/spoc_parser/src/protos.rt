@@ -92,7 +92,9 @@ impl<'a> Source<'a> {
 
 impl<'a> Part<'a> for Prt<'a> {
     ghost Plain = { ProtoItem };
+
     ghost reads = { read_proto_item };
+
     ghost is = { IsProtoItem };
 
     fn part(source: Source<'a>, tokens: &mut Cursor<'a, '_>) -> Result<Self, Stop> {

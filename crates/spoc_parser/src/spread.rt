@@ -60,7 +60,9 @@ fn are_joined(words: &[Word<'_>]) -> bool
 
 impl<'a> Part<'a> for Word<'a> {
     ghost Plain = { Lexeme };
+
     ghost reads = { read_any_word };
+
     ghost is = { IsWord };
 
     fn part(source: Source<'a>, tokens: &mut Cursor<'a, '_>) -> Result<Self, Stop> {

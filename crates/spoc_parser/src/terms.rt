@@ -98,7 +98,12 @@ impl<'a> Source<'a> {
     }
 
     #[cycle(terms)]
-    fn term(self, tokens: &mut Cursor<'a, '_>, scope: Scope, depth: u8) -> Result<TermTree<'a>, Stop>
+    fn term(
+        self,
+        tokens: &mut Cursor<'a, '_>,
+        scope: Scope,
+        depth: u8,
+    ) -> Result<TermTree<'a>, Stop>
         ensures gives { Gives (IsTerm self.entry.file depth) result (toks_of tokens.new.rest.now) (read_term scope.user depth scope.area (toks_of tokens.old.rest.now)) }
         ensures shorter { OnOk result (length tokens.new.rest.now < length tokens.old.rest.now) }
     {
@@ -124,7 +129,12 @@ impl<'a> Source<'a> {
 
     // A set in brackets.
     #[cycle(terms)]
-    fn bracket(self, tokens: &mut Cursor<'a, '_>, scope: Scope, depth: u8) -> Result<SetTree<'a>, Stop>
+    fn bracket(
+        self,
+        tokens: &mut Cursor<'a, '_>,
+        scope: Scope,
+        depth: u8,
+    ) -> Result<SetTree<'a>, Stop>
         ensures gives { Gives (IsSetIn self.entry.file depth) result (toks_of tokens.new.rest.now) (read_bracket (read_set_in scope.user depth true) (toks_of tokens.old.rest.now)) }
         ensures shorter { OnOk result (length tokens.new.rest.now < length tokens.old.rest.now) }
     {
@@ -136,7 +146,12 @@ impl<'a> Source<'a> {
 
     // A set in brackets, perhaps behind a prefix.
     #[cycle(terms)]
-    fn anys(self, tokens: &mut Cursor<'a, '_>, scope: Scope, depth: u8) -> Result<TermTree<'a>, Stop>
+    fn anys(
+        self,
+        tokens: &mut Cursor<'a, '_>,
+        scope: Scope,
+        depth: u8,
+    ) -> Result<TermTree<'a>, Stop>
         ensures gives { Gives (IsTerm self.entry.file depth) result (toks_of tokens.new.rest.now) (read_anys (read_set_in scope.user depth true) (toks_of tokens.old.rest.now)) }
         ensures shorter { OnOk result (length tokens.new.rest.now < length tokens.old.rest.now) }
     {
@@ -149,7 +164,12 @@ impl<'a> Source<'a> {
 
     // A set of so many levels at most.
     #[cycle(terms)]
-    pub fn set(self, tokens: &mut Cursor<'a, '_>, scope: Scope, depth: u8) -> Result<SetTree<'a>, Stop>
+    pub fn set(
+        self,
+        tokens: &mut Cursor<'a, '_>,
+        scope: Scope,
+        depth: u8,
+    ) -> Result<SetTree<'a>, Stop>
         ensures gives { Gives (IsSetIn self.entry.file depth) result (toks_of tokens.new.rest.now) (read_set_in scope.user depth scope.area (toks_of tokens.old.rest.now)) }
         ensures shorter { OnOk result (length tokens.new.rest.now < length tokens.old.rest.now) }
     {
@@ -160,7 +180,12 @@ impl<'a> Source<'a> {
     }
 
     #[cycle(terms)]
-    fn inters(self, tokens: &mut Cursor<'a, '_>, scope: Scope, depth: u8) -> Result<SetTree<'a>, Stop>
+    fn inters(
+        self,
+        tokens: &mut Cursor<'a, '_>,
+        scope: Scope,
+        depth: u8,
+    ) -> Result<SetTree<'a>, Stop>
         ensures gives { Gives (IsSet (IsTerm self.entry.file depth)) result (toks_of tokens.new.rest.now) (read_set (read_term scope.user depth scope.area) (toks_of tokens.old.rest.now)) }
         ensures shorter { OnOk result (length tokens.new.rest.now < length tokens.old.rest.now) }
     {
@@ -194,7 +219,12 @@ impl<'a> Source<'a> {
     }
 
     #[cycle(terms)]
-    fn inter(self, tokens: &mut Cursor<'a, '_>, scope: Scope, depth: u8) -> Result<InterTree<'a>, Stop>
+    fn inter(
+        self,
+        tokens: &mut Cursor<'a, '_>,
+        scope: Scope,
+        depth: u8,
+    ) -> Result<InterTree<'a>, Stop>
         ensures gives { Gives (IsInter (IsTerm self.entry.file depth)) result (toks_of tokens.new.rest.now) (read_inter (read_term scope.user depth scope.area) (toks_of tokens.old.rest.now)) }
         ensures shorter { OnOk result (length tokens.new.rest.now < length tokens.old.rest.now) }
     {
@@ -224,7 +254,12 @@ impl<'a> Source<'a> {
 
     // `&` and a term, perhaps behind `!`.
     #[cycle(terms)]
-    fn other(self, tokens: &mut Cursor<'a, '_>, scope: Scope, depth: u8) -> Result<FurtherTree<'a>, Stop>
+    fn other(
+        self,
+        tokens: &mut Cursor<'a, '_>,
+        scope: Scope,
+        depth: u8,
+    ) -> Result<FurtherTree<'a>, Stop>
         ensures gives { Gives (IsFurther (IsTerm self.entry.file depth)) result (toks_of tokens.new.rest.now) (read_other (read_term scope.user depth scope.area) (toks_of tokens.old.rest.now)) }
         ensures shorter { OnOk result (length tokens.new.rest.now < length tokens.old.rest.now) }
     {
@@ -233,7 +268,12 @@ impl<'a> Source<'a> {
     }
 
     #[cycle(terms)]
-    fn signed(self, tokens: &mut Cursor<'a, '_>, scope: Scope, depth: u8) -> Result<FurtherTree<'a>, Stop>
+    fn signed(
+        self,
+        tokens: &mut Cursor<'a, '_>,
+        scope: Scope,
+        depth: u8,
+    ) -> Result<FurtherTree<'a>, Stop>
         ensures gives { Gives (IsFurther (IsTerm self.entry.file depth)) result (toks_of tokens.new.rest.now) (read_signed (read_term scope.user depth scope.area) (toks_of tokens.old.rest.now)) }
         ensures shorter { OnOk result (length tokens.new.rest.now < length tokens.old.rest.now) }
     {

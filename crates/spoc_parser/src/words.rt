@@ -5,8 +5,7 @@ ghost use Rattle.spoc_parser.specs.Reach.{IsInReach};
 ghost use Rattle.spoc_lexer.specs.Seen.{seen};
 ghost use Rattle.spoc_parser.specs.Seen.{toks_of, Gives, IsWord, IsPort, IsPerhaps};
 
-use crate::cursor::Cursor;
-use crate::cursor::Source;
+use crate::cursor::{Cursor, Source};
 use crate::fail::Stop;
 use crate::forms::{Form, cut, is_name};
 use spoc_ast::{PortName, Word};

@@ -1,6 +1,5 @@
-use Rattle.std.proofs.Common.{◌≡◌, ◌≤◌, ◌+◌, ◌-◌, suc, true, false, length, drop, sym, ap, ◌∙◌, subst, arith}
+use Rattle.std.proofs.Common.{◌≡◌, ◌+◌, ◌-◌, drop, sym, ap, ◌∙◌, arith}
 use Rattle.std.specs.Prelude.{◌&&◌}
-use Rattle.std.proofs.lemmas.List.{length-map}
 use Rattle.spoc_parser.specs.Texts.{are_joined}
 use Rattle.spoc_parser.specs.SeenParts.{written}
 use Rattle.spoc_parser.proofs.Spreading.{joins_at, joins_end}

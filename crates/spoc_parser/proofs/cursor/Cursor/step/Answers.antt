@@ -1,4 +1,3 @@
-use Rattle.std.proofs.Common.{length}
 use Rattle.std.proofs.lemmas.List.Elements.{All-drop, All-take}
 use Rattle.spoc_parser.specs.Reach.{IsInReach}
 use Rattle.spoc_parser.proofs.cursor.Cursor.step.Goals as goal

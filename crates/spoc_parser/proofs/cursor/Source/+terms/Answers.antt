@@ -1,17 +1,15 @@
-use Rattle.std.proofs.Common.{◌≡◌, ◌≤◌, ◌<◌, ◌+◌, ◌-◌, ℕ, suc, true, false, List, [], ◌∷◌, ◌++◌, Ok, Err, Bor, length, ◌∙◌, sym, ap, arith, refl, subst}
+use Rattle.std.proofs.Common.{◌≡◌, ◌+◌, ◌-◌, suc, true, List, [], ◌∷◌, ◌++◌, Ok, Err, Bor, length, ◌∙◌, sym, ap, arith, refl, subst}
 use Rattle.std.specs.Prelude.{codes, not}
 use Rattle.std.specs.List.{AllZip}
 use Rattle.std.proofs.lemmas.List.{length-map, length_push}
 use Rattle.std.proofs.lemmas.Result.{err_from_is_err_and}
-use Rattle.std.proofs.lemmas.Bool.{not-false}
-use Rattle.spoc_ast.specs.declared.word.Word.{Word}
-use Rattle.spoc_ast.specs.declared.set.SetTree.{SetTree, out-SetTree}
-use Rattle.spoc_ast.specs.declared.set.InterTree.{InterTree, out-InterTree}
+use Rattle.spoc_ast.specs.declared.set.SetTree.{out-SetTree}
+use Rattle.spoc_ast.specs.declared.set.InterTree.{InterTree}
 use Rattle.spoc_ast.specs.declared.set.FurtherTree.{FurtherTree}
 use Rattle.spoc_lexer.specs.Seen.{seen}
 use Rattle.spoc_parser.specs.Readers.{at_sign, past, read_sign, read_commas, read_up_to, read_unless, read_further, list_ends}
-use Rattle.spoc_parser.specs.Reading.{read_term, read_inter, read_other, read_others, read_signed, no_other, read_set_in, read_inside, no_prefix, past_mark}
-use Rattle.spoc_parser.specs.Seen.{toks_of, Gives, Behind, IsWord, IsPerhaps, IsFurther, IsInter, IsSet, IsSetIn, IsTerm}
+use Rattle.spoc_parser.specs.Reading.{read_term, read_inter, read_other, read_others, no_other, read_set_in, read_inside, no_prefix, past_mark}
+use Rattle.spoc_parser.specs.Seen.{toks_of, Gives, Behind, IsWord, IsPerhaps, IsFurther, IsInter, IsSetIn, IsTerm}
 use Rattle.spoc_parser.proofs.Gathering.{at_start, behind_nil, until_err, until_more, until_end, commas_err, commas_more, commas_closed, commas_end, taken_is, left_is, listed_gives, then_ok, then_next, then_err, gives_as, gives_err}
 use Rattle.spoc_parser.proofs.Levels.{set_gives}
 use Rattle.spoc_parser.proofs.cursor.Source.+terms.Goals as goal
@@ -20,9 +18,9 @@ pub anys-returns-in_err-sign-2-clause-gives : goal.anys-returns-in_err-sign-2-cl
 anys-returns-in_err-sign-2-clause-gives t c =
     let p = err_from_is_err_and c.from_residual-in_err-sign-2.result c.from_residual-in_err-sign-2.ensures.1 in
     rw (p.1, p.2) (then_next (λ a x. a ≡ x) c.in_ok-sign.field-0 c.in_err-sign-2.field-0.0 (toks_of c.sign.new.self.rest.now) (read_sign (codes "[") (toks_of c.args.tokens.now.rest.now)) _ c.in_ok-sign.ensures.gives (λ _.
-      then_next (IsPerhaps (IsWord c.args.self.file)) c.in_ok-inside.inside c.in_err-sign-2.field-0.0 (toks_of c.inside.new.tokens.rest.now) (read_unless no_prefix read_inside (toks_of c.sign.new.self.rest.now)) _ c.in_ok-inside.ensures.gives (λ _.
-      then_next (IsSetIn c.args.self.file c.args.depth) c.in_ok-set.set c.in_err-sign-2.field-0.0 (toks_of c.set.new.tokens.rest.now) (read_set_in c.args.scope.user c.args.depth true (toks_of c.inside.new.tokens.rest.now)) _ (subst (λ u. Gives (IsSetIn c.args.self.file c.args.depth) (Ok c.in_ok-set.set) (toks_of c.set.new.tokens.rest.now) (read_set_in u c.args.depth true (toks_of c.inside.new.tokens.rest.now))) c.inside-2.ensures.user (subst (λ a. Gives (IsSetIn c.args.self.file c.args.depth) (Ok c.in_ok-set.set) (toks_of c.set.new.tokens.rest.now) (read_set_in c.inside-2.result.user c.args.depth a (toks_of c.inside.new.tokens.rest.now))) c.inside-2.ensures.area c.in_ok-set.ensures.gives)) (λ _.
-      then_err c.in_err-sign-2.field-0.0 (read_sign (codes "]") (toks_of c.set.new.tokens.rest.now)) _ c.in_err-sign-2.ensures.gives))))
+    then_next (IsPerhaps (IsWord c.args.self.file)) c.in_ok-inside.inside c.in_err-sign-2.field-0.0 (toks_of c.inside.new.tokens.rest.now) (read_unless no_prefix read_inside (toks_of c.sign.new.self.rest.now)) _ c.in_ok-inside.ensures.gives (λ _.
+    then_next (IsSetIn c.args.self.file c.args.depth) c.in_ok-set.set c.in_err-sign-2.field-0.0 (toks_of c.set.new.tokens.rest.now) (read_set_in c.args.scope.user c.args.depth true (toks_of c.inside.new.tokens.rest.now)) _ (subst (λ u. Gives (IsSetIn c.args.self.file c.args.depth) (Ok c.in_ok-set.set) (toks_of c.set.new.tokens.rest.now) (read_set_in u c.args.depth true (toks_of c.inside.new.tokens.rest.now))) c.inside-2.ensures.user (subst (λ a. Gives (IsSetIn c.args.self.file c.args.depth) (Ok c.in_ok-set.set) (toks_of c.set.new.tokens.rest.now) (read_set_in c.inside-2.result.user c.args.depth a (toks_of c.inside.new.tokens.rest.now))) c.inside-2.ensures.area c.in_ok-set.ensures.gives)) (λ _.
+    then_err c.in_err-sign-2.field-0.0 (read_sign (codes "]") (toks_of c.set.new.tokens.rest.now)) _ c.in_err-sign-2.ensures.gives))))
 
 pub inter-returns-in_err-first-clause-gives : goal.inter-returns-in_err-first-clause-gives
 inter-returns-in_err-first-clause-gives t c =
@@ -33,7 +31,7 @@ pub inter-returns-in_err-rest-clause-gives : goal.inter-returns-in_err-rest-clau
 inter-returns-in_err-rest-clause-gives t c =
     let p = err_from_is_err_and c.from_residual-in_err-rest.result c.from_residual-in_err-rest.ensures.1 in
     rw (p.1, p.2) (then_next (IsTerm c.args.self.file c.args.depth) c.in_ok-first.first c.in_err-rest.field-0.0 (toks_of c.term.new.tokens.rest.now) ((read_term c.args.scope.user c.args.depth c.args.scope.area) (toks_of c.args.tokens.now.rest.now)) _ c.in_ok-first.ensures.gives (λ _.
-      then_err c.in_err-rest.field-0.0 (read_others (read_term c.args.scope.user c.args.depth c.args.scope.area) (toks_of c.term.new.tokens.rest.now)) _ c.in_err-rest.ensures.gives))
+    then_err c.in_err-rest.field-0.0 (read_others (read_term c.args.scope.user c.args.depth c.args.scope.area) (toks_of c.term.new.tokens.rest.now)) _ c.in_err-rest.ensures.gives))
 
 pub inter-returns-clause-gives : goal.inter-returns-clause-gives
 inter-returns-clause-gives t c =
@@ -66,12 +64,12 @@ pub inters-returns-in_err-inters-clause-gives : goal.inters-returns-in_err-inter
 inters-returns-in_err-inters-clause-gives t c =
     let p = err_from_is_err_and c.from_residual-in_err-inters.result c.from_residual-in_err-inters.ensures.1 in
     rw (p.1, p.2) (then_next (IsInter (IsTerm c.args.self.file c.args.depth)) c.in_ok-first.first c.in_err-inters.field-0.0 (toks_of c.inter.new.tokens.rest.now) (read_inter (read_term c.args.scope.user c.args.depth c.args.scope.area) (toks_of c.args.tokens.now.rest.now)) _ c.in_ok-first.ensures.gives (λ _.
-      gives_err c.in_err-inters.field-0.0 (read_further list_ends (read_inter (read_term c.args.scope.user c.args.depth c.args.scope.area)) (toks_of c.inter.new.tokens.rest.now)) _ c.in_err-inters.ensures.gives (λ none. rw none refl)))
+    gives_err c.in_err-inters.field-0.0 (read_further list_ends (read_inter (read_term c.args.scope.user c.args.depth c.args.scope.area)) (toks_of c.inter.new.tokens.rest.now)) _ c.in_err-inters.ensures.gives (λ none. rw none refl)))
 
 pub inters-returns-clause-gives : goal.inters-returns-clause-gives
 inters-returns-clause-gives t c =
     gives_as (AllZip (IsInter (IsTerm c.args.self.file c.args.depth))) (λ (b : Bor (List InterTree)). b.now) c.in_ok-inters.inters (λ tree. (out-SetTree tree).inters.now) c.set_of.result (toks_of c.more_inters.new.tokens.rest.now) _ c.set_of.ensures
-      (listed_gives list_ends (read_inter (read_term c.args.scope.user c.args.depth c.args.scope.area)) (IsInter (IsTerm c.args.self.file c.args.depth)) c.in_ok-first.first (c.in_ok-first.first ∷ []) (Ok c.in_ok-inters.inters) (λ (b : Bor (List InterTree)). b.now) (toks_of c.args.tokens.now.rest.now) (toks_of c.inter.new.tokens.rest.now) (toks_of c.more_inters.new.tokens.rest.now) refl c.in_ok-first.ensures.gives c.in_ok-inters.ensures.gives)
+    (listed_gives list_ends (read_inter (read_term c.args.scope.user c.args.depth c.args.scope.area)) (IsInter (IsTerm c.args.self.file c.args.depth)) c.in_ok-first.first (c.in_ok-first.first ∷ []) (Ok c.in_ok-inters.inters) (λ (b : Bor (List InterTree)). b.now) (toks_of c.args.tokens.now.rest.now) (toks_of c.inter.new.tokens.rest.now) (toks_of c.more_inters.new.tokens.rest.now) refl c.in_ok-first.ensures.gives c.in_ok-inters.ensures.gives)
 
 pub others-loop-scope-init : goal.others-loop-scope-init
 others-loop-scope-init t c =

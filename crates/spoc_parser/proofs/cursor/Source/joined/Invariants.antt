@@ -1,4 +1,4 @@
-use Rattle.std.proofs.Common.{length, take, ◌≡◌}
+use Rattle.std.proofs.Common.{take, ◌≡◌}
 use Rattle.spoc_parser.specs.Texts.{joined}
 use Rattle.spoc_parser.specs.SeenParts.{written}
 use Rattle.spoc_parser.proofs.cursor.Source.joined.Given as goal

@@ -1,14 +1,13 @@
-use Rattle.std.proofs.Common.{◌≡◌, ◌≤◌, ◌<◌, ◌+◌, ◌-◌, ℕ, suc, true, false, List, [], ◌∷◌, ◌++◌, Bor, length, ◌∙◌, sym, ap, arith, refl, subst}
+use Rattle.std.proofs.Common.{◌≡◌, ◌+◌, ◌-◌, List, Bor, length, ◌∙◌, sym, ap, arith, refl}
 use Rattle.std.specs.List.{AllZip}
 use Rattle.std.specs.Prelude.{codes}
 use Rattle.std.proofs.lemmas.List.{length-map, length_push}
 use Rattle.std.proofs.lemmas.Result.{err_from_is_err_and}
 use Rattle.spoc_ast.specs.declared.word.Word.{Word}
 use Rattle.spoc_lexer.specs.Seen.{seen}
-use Rattle.spoc_parser.specs.Ends.{closes}
 use Rattle.spoc_parser.specs.Readers.{at_sign, past, read_commas, read_word, never_ends}
 use Rattle.spoc_parser.specs.Seen.{toks_of, Behind, IsWord}
-use Rattle.spoc_parser.proofs.Gathering.{at_start, behind_nil, commas_err, commas_more, commas_closed, commas_end, taken_is, left_is}
+use Rattle.spoc_parser.proofs.Gathering.{at_start, behind_nil, commas_err, commas_more, commas_end, taken_is, left_is}
 use Rattle.spoc_parser.proofs.cursor.Source.more_words.Goals as goal
 
 pub loop-form-init : goal.loop-form-init

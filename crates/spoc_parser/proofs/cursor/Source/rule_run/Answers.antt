@@ -1,19 +1,15 @@
-use Rattle.std.proofs.Common.{◌≡◌, ◌≤◌, ◌+◌, ◌-◌, ℕ, suc, true, false, List, [], ◌∷◌, ◌++◌, Some, Ok, Err, Bor, length, refl, sym, ◌∙◌, ap, subst, arith}
+use Rattle.std.proofs.Common.{◌≡◌, ◌+◌, ◌-◌, true, false, List, [], Bor, length, sym, ◌∙◌, ap, subst, arith}
 use Rattle.std.specs.Prelude.{codes}
 use Rattle.std.specs.List.{AllZip}
 use Rattle.std.proofs.lemmas.List.{length-map, length_push}
 use Rattle.std.proofs.lemmas.Result.{err_from_is_err_and}
-use Rattle.spoc_ast.specs.declared.word.Word.{Word}
 use Rattle.spoc_ast.specs.declared.decl.RuleTree.{RuleTree}
-use Rattle.spoc_ast.specs.declared.decl.Decl.{Decl}
 use Rattle.spoc_lexer.specs.Seen.{seen}
-use Rattle.spoc_parser.specs.declared.forms.Form.TheVariants.{Note}
-use Rattle.spoc_parser.specs.Readers.{at_sign, read_sign, read_named, read_unless, read_listed, read_port, read_further, read_word, read_up_to, never_ends, list_ends}
-use Rattle.spoc_parser.specs.Reading.{read_desc_part, read_set_in, read_proto, read_rule, read_decl_in}
-use Rattle.spoc_parser.specs.Files.{run_of, read_run}
-use Rattle.spoc_parser.specs.Seen.{toks_of, IsWord, IsPerhaps, IsSetIn}
-use Rattle.spoc_parser.specs.SeenParts.{AreWords, IsProto, IsRule, IsDecl}
-use Rattle.spoc_parser.proofs.Gathering.{at_start, until_err, until_more, until_end, then_ok, then_next, then_err}
+use Rattle.spoc_parser.specs.Readers.{at_sign, read_up_to}
+use Rattle.spoc_parser.specs.Reading.{read_set_in, read_rule}
+use Rattle.spoc_parser.specs.Seen.{toks_of, IsSetIn}
+use Rattle.spoc_parser.specs.SeenParts.{IsRule}
+use Rattle.spoc_parser.proofs.Gathering.{at_start, until_err, until_more, until_end}
 use Rattle.spoc_parser.proofs.cursor.Source.rule_run.Goals as goal
 
 pub loop-self-init : goal.loop-self-init

@@ -1,4 +1,4 @@
-use Rattle.std.proofs.Common.{◌≡◌, ℕ, true, false, List, Ok, Err, Bor, refl, sym}
+use Rattle.std.proofs.Common.{true, false, List, Ok, Bor, refl}
 use Rattle.std.specs.Prelude.{codes}
 use Rattle.std.specs.List.{AllZip}
 use Rattle.std.proofs.lemmas.Result.{err_from_is_err_and}
@@ -16,18 +16,18 @@ pub returns-in_err-user-clause-gives : goal.returns-in_err-user-clause-gives
 returns-in_err-user-clause-gives c =
     let p = err_from_is_err_and c.from_residual-in_err-user.result c.from_residual-in_err-user.ensures.1 in
     rw (p.1, p.2) (then_next (IsWord c.args.self.file) c.in_ok-name.name c.in_err-user.field-0.0 (toks_of c.named.new.tokens.rest.now) (read_named (codes "service:") (toks_of c.args.tokens.now.rest.now)) _ c.in_ok-name.ensures.gives (λ _.
-      then_next (IsPerhaps (IsWord c.args.self.file)) c.in_ok-desc.desc c.in_err-user.field-0.0 (toks_of c.opening.new.tokens.rest.now) (read_opening (toks_of c.named.new.tokens.rest.now)) _ c.in_ok-desc.ensures.gives (λ _.
-      then_next (λ xs (ys : Bor (List Idle)). AllZip (IsIdle c.args.self.file) xs ys.now) c.in_ok-idle.idle c.in_err-user.field-0.0 (toks_of c.until.new.tokens.rest.now) (read_until no_idle read_idle (toks_of c.opening.new.tokens.rest.now)) _ c.in_ok-idle.ensures.gives (λ _.
-      then_err c.in_err-user.field-0.0 (read_side (codes "user") (read_set_in false c.args.depth false) (toks_of c.until.new.tokens.rest.now)) _ c.in_err-user.ensures.gives))))
+    then_next (IsPerhaps (IsWord c.args.self.file)) c.in_ok-desc.desc c.in_err-user.field-0.0 (toks_of c.opening.new.tokens.rest.now) (read_opening (toks_of c.named.new.tokens.rest.now)) _ c.in_ok-desc.ensures.gives (λ _.
+    then_next (λ xs (ys : Bor (List Idle)). AllZip (IsIdle c.args.self.file) xs ys.now) c.in_ok-idle.idle c.in_err-user.field-0.0 (toks_of c.until.new.tokens.rest.now) (read_until no_idle read_idle (toks_of c.opening.new.tokens.rest.now)) _ c.in_ok-idle.ensures.gives (λ _.
+    then_err c.in_err-user.field-0.0 (read_side (codes "user") (read_set_in false c.args.depth false) (toks_of c.until.new.tokens.rest.now)) _ c.in_err-user.ensures.gives))))
 
 pub returns-in_err-rules-clause-gives : goal.returns-in_err-rules-clause-gives
 returns-in_err-rules-clause-gives c =
     let p = err_from_is_err_and c.from_residual-in_err-rules.result c.from_residual-in_err-rules.ensures.1 in
     rw (p.1, p.2) (then_next (IsWord c.args.self.file) c.in_ok-name.name c.in_err-rules.field-0.0 (toks_of c.named.new.tokens.rest.now) (read_named (codes "service:") (toks_of c.args.tokens.now.rest.now)) _ c.in_ok-name.ensures.gives (λ _.
-      then_next (IsPerhaps (IsWord c.args.self.file)) c.in_ok-desc.desc c.in_err-rules.field-0.0 (toks_of c.opening.new.tokens.rest.now) (read_opening (toks_of c.named.new.tokens.rest.now)) _ c.in_ok-desc.ensures.gives (λ _.
-      then_next (λ xs (ys : Bor (List Idle)). AllZip (IsIdle c.args.self.file) xs ys.now) c.in_ok-idle.idle c.in_err-rules.field-0.0 (toks_of c.until.new.tokens.rest.now) (read_until no_idle read_idle (toks_of c.opening.new.tokens.rest.now)) _ c.in_ok-idle.ensures.gives (λ _.
-      then_next (IsSetIn c.args.self.file c.args.depth) c.in_ok-user.user c.in_err-rules.field-0.0 (toks_of c.side.new.tokens.rest.now) (read_side (codes "user") (read_set_in false c.args.depth false) (toks_of c.until.new.tokens.rest.now)) _ c.in_ok-user.ensures.gives (λ _.
-      then_err c.in_err-rules.field-0.0 (read_rules (read_set_in true c.args.depth false) (toks_of c.side.new.tokens.rest.now)) _ c.in_err-rules.ensures.gives)))))
+    then_next (IsPerhaps (IsWord c.args.self.file)) c.in_ok-desc.desc c.in_err-rules.field-0.0 (toks_of c.opening.new.tokens.rest.now) (read_opening (toks_of c.named.new.tokens.rest.now)) _ c.in_ok-desc.ensures.gives (λ _.
+    then_next (λ xs (ys : Bor (List Idle)). AllZip (IsIdle c.args.self.file) xs ys.now) c.in_ok-idle.idle c.in_err-rules.field-0.0 (toks_of c.until.new.tokens.rest.now) (read_until no_idle read_idle (toks_of c.opening.new.tokens.rest.now)) _ c.in_ok-idle.ensures.gives (λ _.
+    then_next (IsSetIn c.args.self.file c.args.depth) c.in_ok-user.user c.in_err-rules.field-0.0 (toks_of c.side.new.tokens.rest.now) (read_side (codes "user") (read_set_in false c.args.depth false) (toks_of c.until.new.tokens.rest.now)) _ c.in_ok-user.ensures.gives (λ _.
+    then_err c.in_err-rules.field-0.0 (read_rules (read_set_in true c.args.depth false) (toks_of c.side.new.tokens.rest.now)) _ c.in_err-rules.ensures.gives)))))
 
 pub returns-clause-gives : goal.returns-clause-gives
 returns-clause-gives c =

@@ -12,9 +12,9 @@ returns-then-not-are_joined-clause-gives c =
 pub returns-then-not-fits-clause-gives : goal.returns-then-not-fits-clause-gives
 returns-then-not-fits-clause-gives c =
     spread_unfit c.args.self.file c.args.form c.in_ok-words.words (λ (b : Bor (List Word)). b.now) (toks_of c.args.tokens.now.rest.now) (toks_of c.word_run.new.tokens.rest.now) c.in_ok-words.ensures.gives (sym c.are_joined.ensures ∙ c.if-not-are_joined.false)
-      (ap (fits c.args.form) (sym c.in_ok-text.ensures.text) ∙ sym c.fits.ensures ∙ c.if-not-fits.true)
+    (ap (fits c.args.form) (sym c.in_ok-text.ensures.text) ∙ sym c.fits.ensures ∙ c.if-not-fits.true)
 
 pub returns-clause-gives : goal.returns-clause-gives
 returns-clause-gives c =
     spread_yes c.args.self.file c.args.form c.in_ok-words.words (λ (b : Bor (List Word)). b.now) (toks_of c.args.tokens.now.rest.now) (toks_of c.word_run.new.tokens.rest.now) c.in_ok-words.ensures.gives (sym c.are_joined.ensures ∙ c.if-not-are_joined.false)
-      (ap (fits c.args.form) (sym c.in_ok-text.ensures.text) ∙ sym c.fits.ensures ∙ c.if-not-fits.false)
+    (ap (fits c.args.form) (sym c.in_ok-text.ensures.text) ∙ sym c.fits.ensures ∙ c.if-not-fits.false)

@@ -1,15 +1,12 @@
-use Rattle.std.proofs.Common.{◌≡◌, ℕ, true, false, List, Ok, Err, Bor, refl, sym, ◌∙◌, ap, subst}
+use Rattle.std.proofs.Common.{◌≡◌, List, Ok, Bor, refl}
 use Rattle.std.specs.Prelude.{codes}
-use Rattle.std.specs.List.{AllZip}
 use Rattle.std.proofs.lemmas.Result.{err_from_is_err_and}
 use Rattle.spoc_ast.specs.declared.word.Word.{Word}
-use Rattle.spoc_ast.specs.declared.decl.Prt.{Prt}
 use Rattle.spoc_ast.specs.declared.decl.Simple.TheVariants as Simples
-use Rattle.spoc_parser.specs.declared.forms.Form.TheVariants.{Ports, Icmp}
-use Rattle.spoc_parser.specs.Readers.{read_key, read_sign, read_spread_or_none, read_listed, list_ends}
-use Rattle.spoc_parser.specs.Reading.{read_proto_item}
+use Rattle.spoc_parser.specs.declared.forms.Form.TheVariants.{Ports}
+use Rattle.spoc_parser.specs.Readers.{read_key, read_spread_or_none}
 use Rattle.spoc_parser.specs.Seen.{toks_of}
-use Rattle.spoc_parser.specs.SeenParts.{AreWords, IsProto, IsProtoItem}
+use Rattle.spoc_parser.specs.SeenParts.{AreWords, IsProto}
 use Rattle.spoc_parser.proofs.Gathering.{then_ok, then_next, then_err}
 use Rattle.spoc_parser.proofs.cursor.Source.tcp.Goals as goal
 

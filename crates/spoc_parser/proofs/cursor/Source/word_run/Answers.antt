@@ -1,4 +1,4 @@
-use Rattle.std.proofs.Common.{◌≤◌, List, length, subst, Bor, arith}
+use Rattle.std.proofs.Common.{List, length, subst, Bor, arith}
 use Rattle.spoc_ast.specs.declared.word.Word.{Word}
 use Rattle.spoc_parser.specs.Seen.{toks_of, Gives}
 use Rattle.spoc_parser.specs.SeenParts.{AreWords}
