@@ -1,5 +1,5 @@
 -- What compiles has no fault of its texts.
-use Rattle.std.specs.Prelude.{◌≡◌, Option, Some, None, Result, Ok, Err}
+use Rattle.std.specs.Prelude.{◌≡◌, Option, Some, None, Result, Ok}
 use Rattle.spoc_base.specs.declared.fault.Fault.{Fault}
 use Rattle.compile_core.specs.Outcome.{Written, unless_fault}
 

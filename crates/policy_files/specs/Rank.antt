@@ -1,7 +1,7 @@
 -- The order of the faults of texts, and the fault of one text.
 use Rattle.std.specs.Prelude.{ℕ, nat_lt, if◌then◌else◌, List, Option, Some, None, option_map}
 use Rattle.spoc_base.specs.declared.fault.Fault.{Fault}
-use Rattle.spoc_base.specs.declared.fault.Fault.TheVariants.{Lex, LeftOut, Deep, Syntax}
+use Rattle.spoc_base.specs.declared.fault.Fault.TheVariants.{Lex, LeftOut, Deep}
 use Rattle.spoc_lexer.specs.Tokens.{Tok}
 use Rattle.token_checks.specs.LeftOut.{is_left_out_at}
 use Rattle.token_checks.specs.Nesting.{is_too_deep_at}

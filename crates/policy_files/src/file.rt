@@ -95,11 +95,7 @@ fn tokens_in<'a>(alloc: Global, file: u32, text: &'a [u8]) -> Result<Vec<Token<'
 }
 
 // The same, with where they end and how many they are.
-fn tokens_of_file<'a>(
-    alloc: Global,
-    file: u32,
-    text: &'a [u8],
-) -> Result<Vec<Token<'a>>, Refusal>
+fn tokens_of_file<'a>(alloc: Global, file: u32, text: &'a [u8]) -> Result<Vec<Token<'a>>, Refusal>
     requires { length text.now ≤ 4194304 }
     ensures ok { IfOk result (λ found. tokens_of text.now ≡ Ok (toks_of found.items)) }
     ensures few { IfOk result (λ found. length found.items < 2 ^ 32) }
