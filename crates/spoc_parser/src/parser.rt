@@ -81,6 +81,56 @@ mod tests {
     use std::alloc::Global;
     use std::test::Fail;
 
+    // Each row of the grammar.
+    const GOOD: [&str; 16] = [
+        "",
+        "network:n-1_A = {}",
+        "network:n = { description = # a { b\n ip = 10.1.1.0/24; host:h = { ip = 10.1.1.9; } nat:t = { ip = 1.0.0.0/8; } has_subnets; }",
+        "network:n = { host:h = { range = 10.1.1.1 - 10.1.1.9; owner = a, b; } nat:t = { } }",
+        "router:r = { description = x\n managed; model = IOS; routing = dynamic; interface:n; interface:m = { ip = 1.2.3.4; hardware = a/0:1.2; bind_nat = s, t; } }",
+        "router:r = { managed = primary; managed = full; managed = standard; routing = manual; interface:n = {} subnet_of = network:x; }",
+        "group:g = ;",
+        "group:g = description = x\n network:n, host:h, interface:r.n, group:h, any:a,;",
+        "group:g = network:n & ! host:h & group:k, network:[any:[ip = 10.0.0.0/8 & area:a], host:[area:b & !network:n,]];",
+        "area:a = { anchor = network:n; border = interface:r.n, interface:s.n; multi_owner; }",
+        "any:a = { description =\n link = network:n; ip = 0.0.0.0/0; overlaps = x; }",
+        "protocol:p = ip; protocol:p = tcp, overlaps, no_check_supernet_rules; protocol:p = tcp 80 - 90 : 1; protocol:p = udp 1:2-3;",
+        "protocol:p = icmp; protocol:p = icmp 3 / 0; protocol:p = icmp 8; protocol:p = proto 50;",
+        "protocolgroup:g = protocol:p, protocolgroup:h, tcp 0, ip,;",
+        "pathrestriction:p = description = x\n interface:r.n, interface:s.m,;",
+        "service:s = { description = x\n unknown_owner; has_unenforceable; no_check_supernet_rules; user = network:n; permit src = user; dst = network:[user & host:h]; prt = tcp 80, protocol:p,; permit src = network:n; dst = user; prt = ip; }",
+    ];
+
+    // What no row allows.
+    const BAD: [&str; 26] = [
+        "network:n.m = {}",
+        "network:n = { ip = 10.1.01.0/24; }",
+        "network:n = { ip = 10.1.1.0/33; }",
+        "network:n = { ip = 256.1.1.0/24; }",
+        "network:n = { ip = 10.1.1/24; }",
+        "network:n = { host:h = { range = 10.1.1.1 10.1.1.9; } }",
+        "network:n = { ip = 10.1.1.0/24, 10.1.2.0/24; }",
+        "router:r = { managed = secondary; }",
+        "router:r = { interface:n = { bind_nat = s, t,; } }",
+        "group:g = description = x;",
+        "group:g = network:n & ;",
+        "group:g = ! network:n;",
+        "group:g = network:n,,;",
+        "group:g = user;",
+        "group:g = area:a;",
+        "group:g = network:[network:n;",
+        "area:a = { border = interface:r.n,; }",
+        "protocol:p = tcp 8 0;",
+        "protocol:p = tcp 80:;",
+        "protocol:p = tcp 080;",
+        "protocol:p = icmp 3-0;",
+        "protocol:p = proto;",
+        "service:s = { user = network:n; }",
+        "service:s = { user = user; permit src = user; dst = user; prt = ip; }",
+        "service:s = { user = network:n; permit src = user; prt = ip; }",
+        "service:s = { user = network:n; permit src = area:a; dst = user; prt = ip; }",
+    ];
+
     // The offset of the fault of a text, where it has one.
     fn fault(alloc: Global, text: &[u8]) -> Result<Option<u32>, Fail> {
         if text.len() > 4194304 {
@@ -101,57 +151,11 @@ mod tests {
     // Each row of the grammar once, and texts that no row allows.
     #[test]
     fn each_row_of_the_grammar(rt: HostRuntime) -> Result<(), Fail> {
-        let good: [&[u8]; 16] = [
-            b"".as_slice(),
-            b"network:n-1_A = {}".as_slice(),
-            b"network:n = { description = # a { b\n ip = 10.1.1.0/24; host:h = { ip = 10.1.1.9; } nat:t = { ip = 1.0.0.0/8; } has_subnets; }".as_slice(),
-            b"network:n = { host:h = { range = 10.1.1.1 - 10.1.1.9; owner = a, b; } nat:t = { } }".as_slice(),
-            b"router:r = { description = x\n managed; model = IOS; routing = dynamic; interface:n; interface:m = { ip = 1.2.3.4; hardware = a/0:1.2; bind_nat = s, t; } }".as_slice(),
-            b"router:r = { managed = primary; managed = full; managed = standard; routing = manual; interface:n = {} subnet_of = network:x; }".as_slice(),
-            b"group:g = ;".as_slice(),
-            b"group:g = description = x\n network:n, host:h, interface:r.n, group:h, any:a,;".as_slice(),
-            b"group:g = network:n & ! host:h & group:k, network:[any:[ip = 10.0.0.0/8 & area:a], host:[area:b & !network:n,]];".as_slice(),
-            b"area:a = { anchor = network:n; border = interface:r.n, interface:s.n; multi_owner; }".as_slice(),
-            b"any:a = { description =\n link = network:n; ip = 0.0.0.0/0; overlaps = x; }".as_slice(),
-            b"protocol:p = ip; protocol:p = tcp, overlaps, no_check_supernet_rules; protocol:p = tcp 80 - 90 : 1; protocol:p = udp 1:2-3;".as_slice(),
-            b"protocol:p = icmp; protocol:p = icmp 3 / 0; protocol:p = icmp 8; protocol:p = proto 50;".as_slice(),
-            b"protocolgroup:g = protocol:p, protocolgroup:h, tcp 0, ip,;".as_slice(),
-            b"pathrestriction:p = description = x\n interface:r.n, interface:s.m,;".as_slice(),
-            b"service:s = { description = x\n unknown_owner; has_unenforceable; no_check_supernet_rules; user = network:n; permit src = user; dst = network:[user & host:h]; prt = tcp 80, protocol:p,; permit src = network:n; dst = user; prt = ip; }".as_slice(),
-        ];
-        let bad: [&[u8]; 26] = [
-            b"network:n.m = {}".as_slice(),
-            b"network:n = { ip = 10.1.01.0/24; }".as_slice(),
-            b"network:n = { ip = 10.1.1.0/33; }".as_slice(),
-            b"network:n = { ip = 256.1.1.0/24; }".as_slice(),
-            b"network:n = { ip = 10.1.1/24; }".as_slice(),
-            b"network:n = { host:h = { range = 10.1.1.1 10.1.1.9; } }".as_slice(),
-            b"network:n = { ip = 10.1.1.0/24, 10.1.2.0/24; }".as_slice(),
-            b"router:r = { managed = secondary; }".as_slice(),
-            b"router:r = { interface:n = { bind_nat = s, t,; } }".as_slice(),
-            b"group:g = description = x;".as_slice(),
-            b"group:g = network:n & ;".as_slice(),
-            b"group:g = ! network:n;".as_slice(),
-            b"group:g = network:n,,;".as_slice(),
-            b"group:g = user;".as_slice(),
-            b"group:g = area:a;".as_slice(),
-            b"group:g = network:[network:n;".as_slice(),
-            b"area:a = { border = interface:r.n,; }".as_slice(),
-            b"protocol:p = tcp 8 0;".as_slice(),
-            b"protocol:p = tcp 80:;".as_slice(),
-            b"protocol:p = tcp 080;".as_slice(),
-            b"protocol:p = icmp 3-0;".as_slice(),
-            b"protocol:p = proto;".as_slice(),
-            b"service:s = { user = network:n; }".as_slice(),
-            b"service:s = { user = user; permit src = user; dst = user; prt = ip; }".as_slice(),
-            b"service:s = { user = network:n; permit src = user; prt = ip; }".as_slice(),
-            b"service:s = { user = network:n; permit src = area:a; dst = user; prt = ip; }".as_slice(),
-        ];
-        for (i, text) in good.iter().enumerate() {
-            assert_eq!(rt; fault(rt.alloc(), text)?, None, "row {i}");
+        for (i, text) in GOOD.iter().enumerate() {
+            assert_eq!(rt; fault(rt.alloc(), text.as_bytes())?, None, "row {i}");
         }
-        for (i, text) in bad.iter().enumerate() {
-            assert_eq!(rt; fault(rt.alloc(), text)?, Some(0), "row {i}");
+        for (i, text) in BAD.iter().enumerate() {
+            assert_eq!(rt; fault(rt.alloc(), text.as_bytes())?, Some(0), "row {i}");
         }
         Ok(())
     }
