@@ -1,0 +1,10 @@
+//! The names that the declarations of a policy give and use: their list in the order of the
+//! files, tables by which a name is looked up, and the first name that is declared twice or used
+//! without being declared.
+#![tactic(auto)]
+
+pub mod mention;
+pub mod names;
+
+pub use mention::{Mention, NameKind};
+pub use names::add_names;
