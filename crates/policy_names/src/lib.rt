@@ -5,6 +5,9 @@
 
 pub mod mention;
 pub mod names;
+mod sets;
+pub mod uses;
 
 pub use mention::{Mention, NameKind};
 pub use names::add_names;
+pub use uses::add_uses;

@@ -1,5 +1,5 @@
 ghost use Rattle.std.specs.Prelude.{◌≡◌, map, flat_map, ◌∷◌, ◌++◌, [], OnOk};
-ghost use Rattle.spoc_ast.specs.Seen.{word_seen, net_part_seen, rout_part_seen, decl_seen};
+ghost use Rattle.spoc_ast.specs.Seen.{word_seen, port_seen, net_part_seen, rout_part_seen, decl_seen};
 ghost use Rattle.policy_decls.specs.Names as plain;
 ghost use Rattle.policy_names.specs.Seen.{kind_seen, GrowsBy};
 
@@ -34,6 +34,14 @@ pub(crate) fn add_plain<'a>(
     ensures { OnOk result (GrowsBy (plain.mention (kind_seen kind) (word_seen name.entry) ∷ []) found.old.items found.new.items) }
 {
     found.push(Mention::plain(kind, name))?;
+    Ok(())
+}
+
+// Adds the interface of a router at a network.
+pub(crate) fn add_port<'a>(port: PortName<'a>, found: &mut Vec<Mention<'a>>) -> Result<(), NoMemory>
+    ensures { OnOk result (GrowsBy (plain.mention_port (port_seen port.entry) ∷ []) found.old.items found.new.items) }
+{
+    found.push(Mention::port(port))?;
     Ok(())
 }
 
