@@ -1,1 +1,2 @@
 pub mod SetUses
+pub mod TestLemmas

@@ -3,6 +3,7 @@
 //! without being declared.
 #![tactic(auto)]
 
+mod keys;
 pub mod mention;
 pub mod names;
 mod sets;
