@@ -1,2 +1,3 @@
 pub mod SetUses
 pub mod TestLemmas
+pub mod Noted

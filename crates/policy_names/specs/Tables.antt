@@ -1,6 +1,7 @@
 -- What tables of names hold.
-use Rattle.std.specs.Prelude.{◌≡◌, ℕ, ◌<◌, ◌==◌, ◌&&◌, Bool, List, [], map, filter, length, slice_index_or, if◌then◌else◌}
+use Rattle.std.specs.Prelude.{◌≡◌, ℕ, ◌<◌, ◌==◌, ◌&&◌, Bool, not, List, [], ◌∷◌, ◌++◌, map, filter, length, slice_index_or, if◌then◌else◌}
 use Rattle.std.specs.Str.{bytes_eq}
+use Rattle.std.specs.List.{list_any}
 use Rattle.policy_model.specs.Lists.{once_each}
 use Rattle.policy_decls.specs.Names.{NameKind, TagName, number_of_kind, same_kind, Mention}
 use Rattle.policy_decls.specs.Uses.{is_tag}
@@ -41,3 +42,7 @@ pub record AreTables (names : List Mention) (rows : List (List Key)) (texts : Li
   pub kinds : length rows ≡ 12
   pub keys : (n : ℕ) → n < 12 → slice_index_or rows n [] ≡ row_of names n
   pub tags : texts ≡ map text_of (once_each same_text (of_kind names TagName))
+
+-- the tags' texts after one more name
+abbrev pub tags_after : List Key → Mention → List Key
+tags_after texts name = if is_tag name.kind && not (list_any (same_key (text_of name)) texts) then texts ++ text_of name ∷ [] else texts

@@ -7,6 +7,7 @@ mod keys;
 pub mod mention;
 pub mod names;
 mod sets;
+mod tables;
 pub mod uses;
 
 pub use mention::{Mention, NameKind};
