@@ -1,3 +1,5 @@
 pub mod SetUses
 pub mod TestLemmas
 pub mod Noted
+pub mod Twice
+pub mod Steps

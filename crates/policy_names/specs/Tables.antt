@@ -1,9 +1,10 @@
 -- What tables of names hold.
-use Rattle.std.specs.Prelude.{◌≡◌, ℕ, ◌<◌, ◌==◌, ◌&&◌, Bool, not, List, [], ◌∷◌, ◌++◌, map, filter, length, slice_index_or, if◌then◌else◌}
+use Rattle.std.specs.Prelude.{◌≡◌, ℕ, ◌<◌, ◌==◌, ◌&&◌, Bool, not, List, [], ◌∷◌, ◌++◌, map, filter, length, slice_index_or, Option, option_and_then, if◌then◌else◌}
 use Rattle.std.specs.Str.{bytes_eq}
 use Rattle.std.specs.List.{list_any}
+use Rattle.spoc_base.specs.declared.place.Named.{Named}
 use Rattle.policy_model.specs.Lists.{once_each}
-use Rattle.policy_decls.specs.Names.{NameKind, TagName, number_of_kind, same_kind, Mention}
+use Rattle.policy_decls.specs.Names.{NameKind, TagName, number_of_kind, same_kind, Mention, first_below, is_again, shown_at}
 use Rattle.policy_decls.specs.Uses.{is_tag}
 use Rattle.policy_decls.specs.Said.{same_text}
 
@@ -46,3 +47,7 @@ pub record AreTables (names : List Mention) (rows : List (List Key)) (texts : Li
 -- the tags' texts after one more name
 abbrev pub tags_after : List Key → Mention → List Key
 tags_after texts name = if is_tag name.kind && not (list_any (same_key (text_of name)) texts) then texts ++ text_of name ∷ [] else texts
+
+-- the first name of the list that stands in it before
+abbrev pub twice_among : List Mention → Option Named
+twice_among names = option_and_then (shown_at names) (first_below (is_again names) (length names))

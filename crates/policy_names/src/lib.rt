@@ -3,6 +3,7 @@
 //! without being declared.
 #![tactic(auto)]
 
+mod collect;
 mod keys;
 pub mod mention;
 pub mod names;

@@ -1,12 +1,12 @@
-ghost use Rattle.std.specs.Prelude.{◌≡◌, true, not, length, List, [], ◌∷◌, ◌++◌, IfOk, OnOk, slice_set, slice_index_or};
+ghost use Rattle.std.specs.Prelude.{◌≡◌, true, not, length, List, [], ◌∷◌, ◌++◌, map, Some, None, IfOk, IfErr, OnOk, slice_set, slice_index_or};
 ghost use Rattle.std.specs.List.{list_any};
 ghost use Rattle.policy_decls.specs.Names as plain;
 ghost use Rattle.policy_names.specs.Seen.{kind_seen, mention_seen};
-ghost use Rattle.policy_names.specs.Tables.{AreTables, same_key, key_of, tags_after};
+ghost use Rattle.policy_names.specs.Tables.{AreTables, same_key, key_of, tags_after, twice_among};
 
 use crate::keys::Keys;
 use crate::mention::{Mention, NameKind};
-use spoc_base::NoMemory;
+use spoc_base::{Named, NoMemory};
 use std::alloc::Global;
 
 // How many kinds of names there are.
@@ -68,4 +68,22 @@ fn note_tag<'a>(tags: &mut Keys<'a>, name: &Mention<'a>) -> Result<(), NoMemory>
         }
         _ => Ok(()),
     }
+}
+
+/// The tables of these names, or the first that stands among them a second time.
+pub(crate) fn tables_of<'a>(
+    alloc: Global,
+    names: &[Mention<'a>],
+) -> Result<Result<Tables<'a>, Named>, NoMemory>
+    ensures tables { IfOk result (λ found. IfOk found (λ tables. AreTables (map mention_seen names.now) tables.kinds.items tables.tags)) }
+    ensures differ { IfOk result (λ found. IfOk found (λ _. twice_among (map mention_seen names.now) ≡ None)) }
+    ensures twice { IfOk result (λ found. IfErr found (λ named. twice_among (map mention_seen names.now) ≡ Some named)) }
+{
+    let mut tables = Tables::new(alloc)?;
+    for name in names {
+        if !tables.note(name)? {
+            return Ok(Err(name.shown));
+        }
+    }
+    Ok(Ok(tables))
 }
