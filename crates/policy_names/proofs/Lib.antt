@@ -3,3 +3,4 @@ pub mod TestLemmas
 pub mod Noted
 pub mod Twice
 pub mod Steps
+pub mod Numbers

@@ -1,8 +1,10 @@
-ghost use Rattle.std.specs.Prelude.{◌≡◌, true, not, length, List, [], ◌∷◌, ◌++◌, map, Some, None, IfOk, IfErr, OnOk, slice_set, slice_index_or};
+ghost use Rattle.std.specs.Prelude.{◌≡◌, true, not, length, List, [], ◌∷◌, ◌++◌, map, Some, None, IfOk, IfErr, IfSome, OnOk, position, ◌<◌, ◌≤◌, slice_set, slice_index_or};
 ghost use Rattle.std.specs.List.{list_any};
 ghost use Rattle.policy_decls.specs.Names as plain;
+ghost use Rattle.policy_decls.specs.Uses.{names_it};
+ghost use Rattle.spoc_base.specs.declared.place.Named.{Named};
 ghost use Rattle.policy_names.specs.Seen.{kind_seen, mention_seen};
-ghost use Rattle.policy_names.specs.Tables.{AreTables, same_key, key_of, tags_after, twice_among};
+ghost use Rattle.policy_names.specs.Tables.{AreTables, same_key, key_of, tags_after, numbered, twice_among};
 
 use crate::keys::Keys;
 use crate::mention::{Mention, NameKind};
@@ -45,6 +47,38 @@ impl<'a> Tables<'a> {
         let new = note_kind(&mut self.kinds, name)?;
         note_tag(&mut self.tags, name)?;
         Ok(new)
+    }
+
+    // The row of a kind.
+    fn row(&self, kind: NameKind) -> &Keys<'a>
+        requires { length self.now.kinds.items ≡ 12 }
+        ensures { result.now ≡ slice_index_or self.now.kinds.items (plain.number_of_kind (kind_seen kind)) [] }
+    {
+        &self.kinds[kind.index()]
+    }
+
+    /// The number of a name among those of its kind, from 0. Of a tag the owner isn't looked at.
+    pub(crate) fn find(&self, kind: NameKind, owner: &[u8], text: &[u8]) -> Option<usize>
+        requires { length self.now.kinds.items ≡ 12 }
+        ensures number { (names : List plain.Mention) (shown : Named) → AreTables names self.now.kinds.items self.now.tags → result ≡ position (names_it (record { kind = kind_seen kind; owner = owner.now; text = text.now; shown = shown })) (numbered names (kind_seen kind)) }
+        ensures within { (names : List plain.Mention) → AreTables names self.now.kinds.items self.now.tags → IfSome result (λ n. n < length names) }
+    {
+        match kind {
+            NameKind::Tag => self.tags.find(b"", text),
+            _ => self.row(kind).find(owner, text),
+        }
+    }
+
+    /// How many names of a kind have numbers.
+    pub(crate) fn len(&self, kind: NameKind) -> usize
+        requires { length self.now.kinds.items ≡ 12 }
+        ensures number { (names : List plain.Mention) → AreTables names self.now.kinds.items self.now.tags → result ≡ length (numbered names (kind_seen kind)) }
+        ensures within { (names : List plain.Mention) → AreTables names self.now.kinds.items self.now.tags → result ≤ length names }
+    {
+        match kind {
+            NameKind::Tag => self.tags.len(),
+            _ => self.row(kind).len(),
+        }
     }
 }
 
