@@ -1,5 +1,5 @@
 -- What tables of names hold.
-use Rattle.std.specs.Prelude.{◌≡◌, ℕ, ◌<◌, ◌==◌, ◌&&◌, Bool, not, List, [], ◌∷◌, ◌++◌, map, filter, length, slice_index_or, Option, option_and_then, if◌then◌else◌}
+use Rattle.std.specs.Prelude.{◌≡◌, ℕ, ◌^◌, ◌<◌, ◌==◌, ◌&&◌, Bool, not, List, [], ◌∷◌, ◌++◌, map, filter, length, slice_index_or, Option, option_and_then, if◌then◌else◌}
 use Rattle.std.specs.Str.{bytes_eq}
 use Rattle.std.specs.List.{list_any}
 use Rattle.spoc_base.specs.declared.place.Named.{Named}
@@ -51,3 +51,8 @@ tags_after texts name = if is_tag name.kind && not (list_any (same_key (text_of 
 -- the first name of the list that stands in it before
 abbrev pub twice_among : List Mention → Option Named
 twice_among names = option_and_then (shown_at names) (first_below (is_again names) (length names))
+
+-- what is true of a table of names: there are fewer of them than numbers, and each row holds those of its kind
+pub record IsTable (names : List Mention) (rows : List (List Key)) (texts : List Key) : Type 0 where
+  pub few : length names < 2 ^ 32
+  pub tables : AreTables names rows texts

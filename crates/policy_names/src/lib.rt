@@ -8,9 +8,11 @@ mod keys;
 pub mod mention;
 pub mod names;
 mod sets;
+pub mod table;
 mod tables;
 pub mod uses;
 
 pub use mention::{Mention, NameKind};
 pub use names::add_names;
+pub use table::{NameTable, name_table};
 pub use uses::add_uses;
