@@ -4,3 +4,4 @@ pub mod Noted
 pub mod Twice
 pub mod Steps
 pub mod Numbers
+pub mod Known

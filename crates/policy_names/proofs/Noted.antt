@@ -106,7 +106,7 @@ module _ {A : Type 0} (same : A → A → Bool) where
     once_any [] = refl
     once_any (x ∷ xs) = any_without x (once_each same xs) (p x) refl ∙ ap (λ r. p x || r) (once_any xs)
 
-text_alike : (m x z : Mention) → same_text x z ≡ true → bytes_eq m.text x.text ≡ bytes_eq m.text z.text
+pub text_alike : (m x z : Mention) → same_text x z ≡ true → bytes_eq m.text x.text ≡ bytes_eq m.text z.text
 text_alike m x z e = ap (bytes_eq m.text) ((bytes_eq-Decides x.text z.text).0 e)
 
 known_text : (m : Mention) (tags : List Mention) → list_any (same_key (text_of m)) (map text_of (once_each same_text tags)) ≡ list_any (λ x. same_text x m) tags

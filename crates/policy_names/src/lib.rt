@@ -10,9 +10,11 @@ pub mod names;
 mod sets;
 pub mod table;
 mod tables;
+pub mod unknown;
 pub mod uses;
 
 pub use mention::{Mention, NameKind};
 pub use names::add_names;
 pub use table::{NameTable, name_table};
+pub use unknown::first_unknown;
 pub use uses::add_uses;

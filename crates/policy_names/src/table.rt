@@ -1,9 +1,9 @@
-ghost use Rattle.std.specs.Prelude.{◌≡◌, length, position, Some, None, IfOk, IfErr};
+ghost use Rattle.std.specs.Prelude.{◌≡◌, not, length, position, Some, None, IfOk, IfErr};
 ghost use Rattle.spoc_base.specs.declared.place.Named.{Named};
 ghost use Rattle.policy_decls.specs.Names.{declared_names};
-ghost use Rattle.policy_decls.specs.Uses.{names_it};
+ghost use Rattle.policy_decls.specs.Uses.{names_it, is_unknown};
 ghost use Rattle.policy_decls.specs.Faults.{name_twice};
-ghost use Rattle.policy_names.specs.Seen.{kind_seen, decls_of};
+ghost use Rattle.policy_names.specs.Seen.{kind_seen, mention_seen, decls_of};
 ghost use Rattle.policy_names.specs.Tables.{numbered};
 
 use crate::collect::declared;
@@ -68,6 +68,13 @@ impl<'a> NameTable<'a> {
             Some(number) => Some(number as u32),
             None => None,
         }
+    }
+
+    /// Whether a name that is used is declared.
+    pub(crate) fn knows(&self, name: &Mention<'_>) -> bool
+        ensures { result ≡ not (is_unknown self.now (mention_seen name.now)) }
+    {
+        self.number(name.kind, name.owner, name.text).is_some()
     }
 
     /// How many names of a kind there are, of tags only one for each text.
