@@ -10,6 +10,8 @@ pub mod names;
 mod sets;
 pub mod table;
 mod tables;
+#[cfg(test)]
+mod tests;
 pub mod unknown;
 pub mod uses;
 
