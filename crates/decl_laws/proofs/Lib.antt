@@ -1,0 +1,6 @@
+pub mod Rows
+pub mod Cuts
+pub mod Absent
+pub mod Found
+pub mod Owners
+pub mod Shaped
