@@ -4,3 +4,4 @@ pub mod Absent
 pub mod Found
 pub mod Owners
 pub mod Shaped
+pub mod Addressed

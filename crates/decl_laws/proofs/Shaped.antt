@@ -1,6 +1,6 @@
 -- What the rows of shapes say of a declaration in which nothing stands that must not.
 use Rattle.std.proofs.Common.{◌≡◌, ℕ, zero, suc, ◌+◌, ◌-◌, ◌<◌, ◌≤◌, ◌⊎◌, inl, inr, Bool, true, false, not, ◌||◌, ◌&&◌, List, [], ◌∷◌, ◌++◌, length, map, refl, sym, ap, subst, ◌∙◌, ⊎_elim, arith}
-use Rattle.std.specs.Prelude.{Option, Some, None, is_some, flat_map, option_and_then, ◌==◌, ◌%◌, nat_lt, IsTrue}
+use Rattle.std.specs.Prelude.{Option, Some, None, is_some, flat_map, option_and_then, ◌==◌, ◌%◌, nat_lt, IsTrue, if◌then◌else◌}
 use Rattle.std.specs.List.{list_any, list_all, slice_get}
 use Rattle.std.proofs.lemmas.Option.{none-some, same_Some}
 use Rattle.std.proofs.lemmas.Bool.{false≢true, true≢false, or_parts, or_left, and_parts, and_from, false_from_ne_true, not-false, not_from_false, ltb-false, eqb-true}
@@ -43,9 +43,18 @@ some_value (Some x) e = (x, refl)
 pub holds_at : {A : Type 0} (test : A → Bool) (o : Option A) (x : A) → o ≡ Some x → holds_of test o ≡ false → test x ≡ false
 holds_at test o x e h = sym (ap (holds_of test) e) ∙ h
 
-row_absent : (n : ℕ) (b : Bool) (rows : List (ℕ × Bool)) → first_true ((n, b) ∷ rows) ≡ None → (b ≡ false) × (first_true rows ≡ None)
-row_absent n true rows e = absurd (none-some n (sym e))
-row_absent n false rows e = (refl, e)
+abbrev AreAbsent : List (ℕ × Bool) → Type 0
+AreAbsent [] = Unit {0}
+AreAbsent (row ∷ rows) = (row.1 ≡ false) × AreAbsent rows
+
+absent_row : (n : ℕ) (b : Bool) (rest : Option ℕ) → (if b then Some n else rest) ≡ None → (b ≡ false) × (rest ≡ None)
+absent_row n true rest e = absurd (none-some n (sym e))
+absent_row n false rest e = (refl, e)
+
+-- no row holds where there is no least one
+rows_absent : (rows : List (ℕ × Bool)) → first_true rows ≡ None → AreAbsent rows
+rows_absent [] e = tt
+rows_absent (row ∷ rows) e = let w = absent_row row.0 row.1 (first_true rows) e in (w.0, rows_absent rows w.1)
 
 -- ---- each declaration is formed, and has its shape
 
@@ -67,12 +76,11 @@ pub record NetShape (parts : List NetPartText) : Type 0 where
 pub net_shape : (decls : List DeclText) (earlier : List IfaceText) (name : Lexeme) (desc : Option Lexeme) (parts : List NetPartText) →
     shape_in decls earlier (NetworkDecl name desc parts) ≡ None → NetShape parts
 net_shape decls earlier name desc parts e =
-    let a = row_absent 1 (lacks_prefix parts) _ e in
-    let b = row_absent 2 (list_any is_bad_host (flat_map hosts_in parts)) _ a.1 in
-    let c = row_absent 3 (holds_of (λ p. list_any (leaves p) (flat_map hosts_in parts)) (own_prefix parts)) _ b.1 in
-    let d = row_absent 4 (has_unaligned parts) _ c.1 in
-    let f = row_absent 5 (holds_of (λ p. has_other_length p parts) (own_prefix parts)) _ d.1 in
-    record { one = a.0; hosts = b.0; stay = c.0; aligned = d.0; lengths = f.0 }
+    let rows : List (ℕ × Bool) =
+        (1, lacks_prefix parts) ∷ (2, list_any is_bad_host (flat_map hosts_in parts)) ∷ (3, holds_of (λ p. list_any (leaves p) (flat_map hosts_in parts)) (own_prefix parts))
+        ∷ (4, has_unaligned parts) ∷ (5, holds_of (λ p. has_other_length p parts) (own_prefix parts)) ∷ [] in
+    let w = rows_absent rows e in
+    record { one = w.0; hosts = w.1.0; stay = w.1.1.0; aligned = w.1.1.1.0; lengths = w.1.1.1.1.0 }
 
 -- a network's own prefix, which has no host bit
 pub record OwnPrefix (parts : List NetPartText) : Type 0 where
@@ -119,13 +127,11 @@ pub router_shape : (decls : List DeclText) (earlier : List IfaceText) (d : DeclT
 router_shape decls earlier (NetworkDecl name desc parts) e = no_ifaces decls earlier
 router_shape decls earlier (RouterDecl name desc parts) e =
     let ifaces = ifaces_in (RouterDecl name desc parts) in
-    let a = row_absent 6 (is_bad_device parts) _ e in
-    let b = row_absent 7 (list_any is_bad_iface ifaces) _ a.1 in
-    let c = row_absent 8 (list_any (is_outside decls) ifaces) _ b.1 in
-    let d = row_absent 9 (clash_with has_address_of earlier ifaces) _ c.1 in
-    let f = row_absent 10 (clash_with has_hardware_of [] ifaces) _ d.1 in
-    let g = row_absent 11 (list_any is_bad_binding ifaces) _ f.1 in
-    record { parts = b.0; inside = c.0; addresses = d.0; hardware = f.0; binds = g.0 }
+    let rows : List (ℕ × Bool) =
+        (6, is_bad_device parts) ∷ (7, list_any is_bad_iface ifaces) ∷ (8, list_any (is_outside decls) ifaces) ∷ (9, clash_with has_address_of earlier ifaces)
+        ∷ (10, clash_with has_hardware_of [] ifaces) ∷ (11, list_any is_bad_binding ifaces) ∷ [] in
+    let w = rows_absent rows e in
+    record { parts = w.1.0; inside = w.1.1.0; addresses = w.1.1.1.0; hardware = w.1.1.1.1.0; binds = w.1.1.1.1.1.0 }
 router_shape decls earlier (GroupDecl name desc objects) e = no_ifaces decls earlier
 router_shape decls earlier (AreaDecl name desc parts) e = no_ifaces decls earlier
 router_shape decls earlier (AggregateDecl name desc parts) e = no_ifaces decls earlier
@@ -138,8 +144,8 @@ router_shape decls earlier (ServiceDecl name desc idle user rules) e = no_ifaces
 
 pub restriction_shape : (decls : List DeclText) (earlier : List IfaceText) (name : Lexeme) (desc : Option Lexeme) (ports : List PortText) →
     shape_in decls earlier (RestrictionDecl name desc ports) ≡ None → is_bad_restriction decls ports ≡ false
-restriction_shape decls earlier name desc ports e = (row_absent 12 (is_bad_restriction decls ports) [] e).0
+restriction_shape decls earlier name desc ports e = (absent_row 12 (is_bad_restriction decls ports) None e).0
 
 pub area_shape : (decls : List DeclText) (earlier : List IfaceText) (name : Lexeme) (desc : Option Lexeme) (parts : List AreaPartText) →
     shape_in decls earlier (AreaDecl name desc parts) ≡ None → is_bad_area decls parts ≡ false
-area_shape decls earlier name desc parts e = (row_absent 14 (is_bad_area decls parts) [] e).0
+area_shape decls earlier name desc parts e = (absent_row 14 (is_bad_area decls parts) None e).0
