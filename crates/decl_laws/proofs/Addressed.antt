@@ -36,14 +36,13 @@ module _ (decls : List DeclText) (formed : are_formed decls ≡ true) (no_fault 
   pub record NetThere (parts : List NetPartText) : Type 0 where
     pub shape : NetShape parts
     pub own : OwnPrefix parts
-    pub formed : list_all is_formed_net parts ≡ true
 
   pub net_there : (name : Lexeme) (desc : Option Lexeme) (parts : List NetPartText) → IsIn (NetworkDecl name desc parts) decls → NetThere parts
   net_there name desc parts h =
       let s = shape_of decls no_fault.shape (NetworkDecl name desc parts) h in
       let shape = net_shape decls s.0 name desc parts s.1 in
       let f : list_all is_formed_net parts ≡ true = formed_in decls formed (NetworkDecl name desc parts) h in
-      record { shape = shape; own = own_of parts f shape; formed = f }
+      record { shape = shape; own = own_of parts f shape }
 
   -- the network of the policy at a declared network's number has its prefix
   pub own_at_name : (name : Lexeme) (desc : Option Lexeme) (parts : List NetPartText) (h : IsIn (NetworkDecl name desc parts) decls) →

@@ -5,3 +5,4 @@ pub mod Found
 pub mod Owners
 pub mod Shaped
 pub mod Addressed
+pub mod Spelling
