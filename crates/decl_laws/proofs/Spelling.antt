@@ -12,7 +12,7 @@ use Rattle.decl_laws.proofs.Cuts.{cut_at_index}
 -- ---- a number up to 255 in decimal digits
 
 abbrev spell : ℕ → List ℕ
-spell n = cond (ltb n 10) (n + 48 ∷ []) (cond (ltb n 100) (n / 10 + 48 ∷ n % 10 + 48 ∷ []) (n / 100 + 48 ∷ n / 10 % 10 + 48 ∷ n % 10 + 48 ∷ []))
+spell n = cond (ltb n 10) ((n + 48) ∷ []) (cond (ltb n 100) ((n / 10 + 48) ∷ (n % 10 + 48) ∷ []) ((n / 100 + 48) ∷ (n / 10 % 10 + 48) ∷ (n % 10 + 48) ∷ []))
 
 grows : (n : ℕ) (digits : List ℕ) → n ≤ fold (λ m b. 10 * m + (b - 48)) n digits
 grows n [] = omega arith
@@ -39,17 +39,17 @@ numeral_from text h =
     record { some = c.0; digits = b.1; plain = not-true (has_leading_zero text) a.1 }
 
 one_digit : (n a : ℕ) → n + 48 ≡ a → n < 10 → a ∷ [] ≡ spell n
-one_digit n a e lt = ap (λ x. x ∷ []) (sym e) ∙ sym (cond-true (ltb n 10) (n + 48 ∷ []) _ (lt-ltb n 10 lt))
+one_digit n a e lt = ap (λ x. x ∷ []) (sym e) ∙ sym (cond-true (ltb n 10) ((n + 48) ∷ []) _ (lt-ltb n 10 lt))
 
 two_digits : (n a b : ℕ) → n / 10 + 48 ≡ a → n % 10 + 48 ≡ b → 10 ≤ n → n < 100 → a ∷ b ∷ [] ≡ spell n
 two_digits n a b e f ge lt =
-    ap (λ x. x ∷ b ∷ []) (sym e) ∙ ap (λ y. n / 10 + 48 ∷ y ∷ []) (sym f)
-    ∙ sym (cond-false (ltb n 10) (n + 48 ∷ []) _ (le-ltb n 10 ge) ∙ cond-true (ltb n 100) (n / 10 + 48 ∷ n % 10 + 48 ∷ []) _ (lt-ltb n 100 lt))
+    ap (λ x. x ∷ b ∷ []) (sym e) ∙ ap (λ y. (n / 10 + 48) ∷ y ∷ []) (sym f)
+    ∙ sym (cond-false (ltb n 10) ((n + 48) ∷ []) _ (le-ltb n 10 ge) ∙ cond-true (ltb n 100) ((n / 10 + 48) ∷ (n % 10 + 48) ∷ []) _ (lt-ltb n 100 lt))
 
 three_digits : (n a b c : ℕ) → n / 100 + 48 ≡ a → n / 10 % 10 + 48 ≡ b → n % 10 + 48 ≡ c → 100 ≤ n → a ∷ b ∷ c ∷ [] ≡ spell n
 three_digits n a b c e f g ge =
-    ap (λ x. x ∷ b ∷ c ∷ []) (sym e) ∙ ap (λ y. n / 100 + 48 ∷ y ∷ c ∷ []) (sym f) ∙ ap (λ z. n / 100 + 48 ∷ n / 10 % 10 + 48 ∷ z ∷ []) (sym g)
-    ∙ sym (cond-false (ltb n 10) (n + 48 ∷ []) _ (le-ltb n 10 (omega arith)) ∙ cond-false (ltb n 100) (n / 10 + 48 ∷ n % 10 + 48 ∷ []) _ (le-ltb n 100 ge))
+    ap (λ x. x ∷ b ∷ c ∷ []) (sym e) ∙ ap (λ y. (n / 100 + 48) ∷ y ∷ c ∷ []) (sym f) ∙ ap (λ z. (n / 100 + 48) ∷ (n / 10 % 10 + 48) ∷ z ∷ []) (sym g)
+    ∙ sym (cond-false (ltb n 10) ((n + 48) ∷ []) _ (le-ltb n 10 (omega arith)) ∙ cond-false (ltb n 100) ((n / 10 + 48) ∷ (n % 10 + 48) ∷ []) _ (le-ltb n 100 ge))
 
 spelled : (text : List ℕ) (n : ℕ) → is_number text ≡ true → value_of text ≡ n → n ≤ 255 → text ≡ spell n
 spelled [] n h e le = absurd (false≢true h)
