@@ -1,5 +1,5 @@
 -- What each row of the table of faults says where it is absent: names are declared once, names that are used are declared, and each declaration has its shape.
-use Rattle.std.proofs.Common.{◌≡◌, ℕ, zero, suc, ◌+◌, ◌<◌, ◌≤◌, inl, Bool, true, false, not, List, [], ◌∷◌, ◌++◌, length, take, refl, sym, ap, subst, ◌∙◌, arith}
+use Rattle.std.proofs.Common.{◌≡◌, ℕ, ◌<◌, inl, Bool, true, false, not, List, [], ◌∷◌, ◌++◌, length, take, refl, sym, ap, subst, ◌∙◌, arith}
 use Rattle.std.specs.Prelude.{Option, Some, None, is_some, filter, option_map, option_and_then}
 use Rattle.std.specs.List.{list_any, slice_get}
 use Rattle.std.proofs.lemmas.Option.{none-some, slice_get-get_or, get_or_from_slice_get}
@@ -54,9 +54,9 @@ stands_once decls none before m after e =
     let names = declared_names decls in
     let k = length before in
     let shown : (j : ℕ) → first_below (is_again names) (length names) ≡ Some j → shown_at names j ≡ None → ⊥ =
-        λ j s. let w = some_below (is_again names) (length names) j s in
-            let there = slice_get-get_or names j m w.0 in
-            not_none (λ (n : Mention). n.shown) (slice_get names j) _ there in
+    λ j s. let w = some_below (is_again names) (length names) j s in
+    let there = slice_get-get_or names j m w.0 in
+    not_none (λ (n : Mention). n.shown) (slice_get names j) _ there in
     let first = none_first (shown_at names) (first_below (is_again names) (length names)) shown none in
     let below : k < length names = subst (λ l. k < length l) (sym e) (within_cut m before after) in
     let at : slice_get names k ≡ Some m = ap (λ l. slice_get l k) e ∙ get_at_cut m before after in
@@ -70,7 +70,7 @@ is_known decls none used h =
     let unknown = filter (is_unknown names) (used_names decls) in
     let test = list_any (names_it used) names in
     not-false test (false_from_ne_true (not test) (λ t. let w = in_filter (is_unknown names) used (used_names decls) h t in
-        nothing_in used unknown (empty unknown none) w))
+    nothing_in used unknown (empty unknown none) w))
   where
     empty : (ms : List Mention) → shown_at ms 0 ≡ None → slice_get ms 0 ≡ None
     empty [] e = refl
@@ -106,10 +106,10 @@ no_shape_at decls none d k below =
     let test : ℕ → Bool = λ j. is_some (shape_at decls j) in
     let row : ℕ → Option (ℕ × Named) = λ j. row_of (shape_at decls j) (name_of_decl decls j) in
     let has_row : (j : ℕ) → first_below test (length decls) ≡ Some j → row j ≡ None → ⊥ =
-        λ j s e. let w = some_below test (length decls) j s in
-            let there = slice_get-get_or decls j d w.0 in
-            let name = no_name (shape_at decls j) (name_of_decl decls j) w.1 e in
-            is_named _ (sym (ap (option_and_then (λ decl. shown_at (names_in decl) 0)) there) ∙ name) in
+    λ j s e. let w = some_below test (length decls) j s in
+    let there = slice_get-get_or decls j d w.0 in
+    let name = no_name (shape_at decls j) (name_of_decl decls j) w.1 e in
+    is_named _ (sym (ap (option_and_then (λ decl. shown_at (names_in decl) 0)) there) ∙ name) in
     none_of (shape_at decls k) (none_below test (length decls) k (none_first row (first_below test (length decls)) has_row none) below)
 
 pub has_shape : (decls : List DeclText) → first_shape decls ≡ None → (before : List DeclText) (d : DeclText) (after : List DeclText) →

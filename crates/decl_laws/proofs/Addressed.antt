@@ -1,33 +1,27 @@
 -- Hosts, translations and interfaces keep to their networks.
-use Rattle.std.proofs.Common.{◌≡◌, ℕ, zero, suc, ◌+◌, ◌<◌, ◌≤◌, ◌⊎◌, inl, inr, Bool, true, false, not, ◌||◌, ◌&&◌, List, [], ◌∷◌, ◌++◌, length, map, get_or, refl, sym, ap, subst, ◌∙◌, ⊎_elim, arith}
-use Rattle.std.specs.Prelude.{Option, Some, None, is_some, flat_map, option_and_then, ◌==◌, IsTrue, if◌then◌else◌}
-use Rattle.std.specs.Str.{bytes_eq}
-use Rattle.std.specs.List.{list_any, list_all, slice_get}
-use Rattle.std.proofs.lemmas.List.{length-map, get_or-map}
+use Rattle.std.proofs.Common.{◌≡◌, ℕ, ◌<◌, inl, inr, Bool, true, false, not, List, [], ◌∷◌, length, refl, sym, ap, subst, ◌∙◌}
+use Rattle.std.specs.Prelude.{Option, Some, None, flat_map, ◌==◌}
+use Rattle.std.specs.List.{list_all, slice_get}
 use Rattle.std.proofs.lemmas.List.Folds.{list_all-append}
-use Rattle.std.proofs.lemmas.Option.{none-some, same_Some, cond_some}
-use Rattle.std.proofs.lemmas.Bool.{false≢true, or_parts, and_parts, and_from, not-false, not_from_false}
-use Rattle.spoc_base.specs.Address.{Cidr, Interval, addresses, interval_covers, prefix_holds}
-use Rattle.policy_model.specs.Lists.{is_nothing}
-use Rattle.policy_model.specs.Policy.{Policy, Net, Host, Iface, no_net, no_host, no_iface, net_of, host_of, iface_of, net_at, router_at, is_managed}
+use Rattle.std.proofs.lemmas.Option.{same_Some}
+use Rattle.std.proofs.lemmas.Bool.{or_parts, and_from, not-false}
+use Rattle.spoc_base.specs.Address.{Cidr, addresses, interval_covers}
+use Rattle.policy_model.specs.Policy.{Net, Host, no_net, no_host, net_of, host_of}
 use Rattle.policy_model.proofs.AllWalks.{IsIn, in_flat_map}
-use Rattle.list_laws.proofs.Members.{each_in}
 use Rattle.list_laws.proofs.Tables.{from_flat_map}
 use Rattle.topology.specs.Sound.{keeps_length}
-use Rattle.spoc_ast.specs.Written.{Lexeme, HostPartText, NatPartText, NetPartText, NetIp, NetHost, NetNat, NetIdle, IfPartText, IfIp, IfHardware, IfBindNat, IfIdle, RoutPartText, RoutIface, DeclText, NetworkDecl, RouterDecl, GroupDecl, AreaDecl, AggregateDecl, ProtocolDecl, ProtocolGroupDecl, RestrictionDecl, ServiceDecl}
-use Rattle.policy_decls.specs.Numbers.{prefix_of, address_of, holds_of}
-use Rattle.policy_decls.specs.Names.{NetworkName, RouterName, TagName, mention, declared_names, names_in}
-use Rattle.policy_decls.specs.Uses.{used_names, names_it, uses_in, uses_in_rout_part, uses_in_if_part}
-use Rattle.policy_decls.specs.Lookup.{first_given, or_nothing, network_called, network_parts, ips_in_nat_part, ips_in_nats, own_prefix, aligned, IfaceText, ifaces_in, declared_ifaces, addresses_in, hardware_in, binds_in, iface_addresses, iface_hardware, iface_binds}
-use Rattle.policy_decls.specs.Shapes.{has_one, hosts_in, spans_in, is_bad_host, interval_in, leaves, has_other_length, is_bad_iface, is_outside, is_bad_binding}
-use Rattle.policy_decls.specs.Said.{names_of, number_of_name, number_of_tag, nats_said, hosts_said, range_or_none, first_prefix, text_or_none, cidr_or_any, adds_of, policy_said, iface_said}
-use Rattle.policy_decls.specs.Faults.{name_twice, name_unknown, first_shape}
-use Rattle.policy_decls.specs.Formed.{says_address, is_formed_iface, is_formed_router, is_formed_net, is_formed, are_formed}
+use Rattle.spoc_ast.specs.Written.{Lexeme, HostPartText, NetPartText, NetIp, NetHost, NetNat, NetIdle, DeclText, NetworkDecl, RouterDecl, GroupDecl, AreaDecl, AggregateDecl, ProtocolDecl, ProtocolGroupDecl, RestrictionDecl, ServiceDecl}
+use Rattle.policy_decls.specs.Numbers.{prefix_of, holds_of}
+use Rattle.policy_decls.specs.Names.{NetworkName, mention, names_in}
+use Rattle.policy_decls.specs.Lookup.{ips_in_nat_part, ips_in_nats, own_prefix, aligned}
+use Rattle.policy_decls.specs.Shapes.{has_one, hosts_in, spans_in, is_bad_host, interval_in, leaves, has_other_length}
+use Rattle.policy_decls.specs.Said.{number_of_name, nats_said, hosts_said, range_or_none, first_prefix, cidr_or_any, adds_of, policy_said}
+use Rattle.policy_decls.specs.Formed.{is_formed_net, are_formed}
 use Rattle.decl_laws.proofs.Rows.{HasNoFault}
 use Rattle.decl_laws.proofs.Cuts.{in_get}
-use Rattle.decl_laws.proofs.Found.{Found, given_here, given_later, net_found}
-use Rattle.decl_laws.proofs.Owners.{network_once, own_number, known_number, Stands, stands, iface_managed}
-use Rattle.decl_laws.proofs.Shaped.{none_in, all_from, its_only, first_one, some_value, holds_at, formed_in, shape_of, NetShape, net_shape, OwnPrefix, own_of, RouterShape, router_shape}
+use Rattle.decl_laws.proofs.Found.{net_found}
+use Rattle.decl_laws.proofs.Owners.{network_once, own_number}
+use Rattle.decl_laws.proofs.Shaped.{none_in, its_only, holds_at, formed_in, shape_of, NetShape, net_shape, OwnPrefix, own_of}
 
 module _ (decls : List DeclText) (formed : are_formed decls ≡ true) (no_fault : HasNoFault decls) where
   -- ---- networks
@@ -68,10 +62,14 @@ module _ (decls : List DeclText) (formed : are_formed decls ≡ true) (no_fault 
       IsIn x (hosts_said (number_of_name decls NetworkName name) part) → HostThere x
   host_in_part x name desc parts h (NetIp prefix) g i = absurd i
   host_in_part x name desc parts h (NetHost host host_parts) g (inl e) = record {
-      name = name; desc = desc; parts = parts; decl = h; host_parts = host_parts;
-      part = in_flat_map hosts_in (NetHost host host_parts) host_parts parts g (inl refl);
-      net = ap (λ (y : Host). y.net) e;
-      range = ap (λ (y : Host). y.range) e;
+    name = name;
+    desc = desc;
+    parts = parts;
+    decl = h;
+    host_parts = host_parts;
+    part = in_flat_map hosts_in (NetHost host host_parts) host_parts parts g (inl refl);
+    net = ap (λ (y : Host). y.net) e;
+    range = ap (λ (y : Host). y.range) e;
   }
   host_in_part x name desc parts h (NetHost host host_parts) g (inr i) = absurd i
   host_in_part x name desc parts h (NetNat tag nat_parts) g i = absurd i
@@ -105,7 +103,7 @@ module _ (decls : List DeclText) (formed : are_formed decls ≡ true) (no_fault 
       let r = one.0 in
       let covered = not-false _ (none_in (λ s. not (interval_covers (addresses (aligned net.own.prefix)) (interval_in s))) spans stay r (subst (λ l. IsIn r l) (sym one.1) (inl refl))) in
       let own : (net_of p x.net).own ≡ aligned net.own.prefix =
-          ap (λ n. (net_of p n).own) w.net ∙ own_at_name w.name w.desc w.parts w.decl ∙ ap cidr_or_any net.own.is ∙ sym net.own.whole in
+      ap (λ n. (net_of p n).own) w.net ∙ own_at_name w.name w.desc w.parts w.decl ∙ ap cidr_or_any net.own.is ∙ sym net.own.whole in
       let range : x.range ≡ interval_in r = w.range ∙ ap (λ l. range_or_none (slice_get l 0)) one.1 in
       ap (λ c. interval_covers (addresses c) x.range) own ∙ ap (interval_covers (addresses (aligned net.own.prefix))) range ∙ covered
 
@@ -137,7 +135,7 @@ module _ (decls : List DeclText) (formed : are_formed decls ≡ true) (no_fault 
   nets_of_decl x (NetworkDecl name desc parts) h (inl e) =
       let net = net_there name desc parts h in
       let all = all_flat (λ nat. keeps_length net.own.prefix nat.1) (nats_said decls) parts
-          (nats_of_part net.own.prefix parts (holds_at _ (own_prefix parts) net.own.prefix net.own.is net.shape.lengths)) in
+      (nats_of_part net.own.prefix parts (holds_at _ (own_prefix parts) net.own.prefix net.own.is net.shape.lengths)) in
       subst (λ (y : Net). list_all (λ nat. keeps_length y.own nat.1) y.nats ≡ true) (sym e)
       (ap (λ o. list_all (λ nat. keeps_length (cidr_or_any o) nat.1) (flat_map (nats_said decls) parts)) net.own.is ∙ all)
   nets_of_decl x (NetworkDecl name desc parts) h (inr g) = absurd g

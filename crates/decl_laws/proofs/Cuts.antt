@@ -1,10 +1,10 @@
 -- Lists that are cut at one of their items, and the first item that passes a test.
-use Rattle.std.proofs.Common.{◌≡◌, ℕ, zero, suc, ◌+◌, ◌<◌, ◌≤◌, ◌⊎◌, inl, inr, Bool, true, false, not, cond, ◌||◌, List, [], ◌∷◌, ◌++◌, length, map, get_or, take, drop, refl, sym, ap, subst, ◌∙◌, ⊎_elim, arith}
-use Rattle.std.specs.Prelude.{Option, Some, None, position, flat_map, filter, nat_lt}
+use Rattle.std.proofs.Common.{◌≡◌, ℕ, zero, suc, ◌+◌, ◌<◌, ◌⊎◌, inl, inr, Bool, true, false, not, cond, ◌||◌, List, [], ◌∷◌, ◌++◌, length, map, get_or, take, drop, refl, sym, ap, subst, ◌∙◌, ⊎_elim, arith}
+use Rattle.std.specs.Prelude.{Some, None, position, flat_map, filter, nat_lt}
 use Rattle.std.specs.List.{list_any, position_or_len, slice_get}
 use Rattle.std.proofs.lemmas.List.{append-nil, append_assoc, length-append, take-append-drop, drop_more, length-take-le, get_or-take}
 use Rattle.std.proofs.lemmas.List.Elements.{filter-append}
-use Rattle.std.proofs.lemmas.Bool.{or_cases, or_parts, false≢true, lt-ltb, cond-true}
+use Rattle.std.proofs.lemmas.Bool.{or_parts, false≢true, lt-ltb, cond-true}
 use Rattle.policy_model.proofs.AllWalks.{IsIn}
 use Rattle.policy_decls.specs.Shapes.{clash_with}
 use Rattle.policy_decls.specs.Said.{or_zero}
@@ -73,8 +73,16 @@ flat_cut f [] A B y e = absurd (omega (arith, ap length e, length-append A (y �
 flat_cut f (d ∷ ds) A B y e =
     ⊎_elim (λ w. record { before = []; at = d; after = ds; front = A; back = w.0; is = refl; there = w.1; ahead = refl })
     (λ w. let v = flat_cut f ds w.0 B y w.2 in
-        record { before = d ∷ v.before; at = v.at; after = v.after; front = v.front; back = v.back; is = ap (λ l. d ∷ l) v.is; there = v.there;
-            ahead = w.1 ∙ ap (λ l. f d ++ l) v.ahead ∙ sym (append_assoc (f d) (flat_map f v.before) v.front) })
+    record {
+      before = d ∷ v.before;
+      at = v.at;
+      after = v.after;
+      front = v.front;
+      back = v.back;
+      is = ap (λ l. d ∷ l) v.is;
+      there = v.there;
+      ahead = w.1 ∙ ap (λ l. f d ++ l) v.ahead ∙ sym (append_assoc (f d) (flat_map f v.before) v.front);
+    })
     (append_cut (f d) (flat_map f ds) A B y e)
 
 -- where no two clash, an item clashes with none before it

@@ -1,17 +1,17 @@
 -- What is declared under a name stands at the name's number.
-use Rattle.std.proofs.Common.{◌≡◌, ℕ, zero, suc, ◌+◌, ◌<◌, ◌≤◌, ◌⊎◌, inl, inr, Bool, true, false, not, cond, ◌||◌, ◌&&◌, List, [], ◌∷◌, ◌++◌, length, map, get_or, refl, sym, ap, subst, ◌∙◌, ⊎_elim, arith}
-use Rattle.std.specs.Prelude.{Option, Some, None, is_some, position, flat_map, filter, if◌then◌else◌}
+use Rattle.std.proofs.Common.{◌≡◌, ℕ, zero, suc, Bool, true, false, cond, ◌||◌, ◌&&◌, List, [], ◌∷◌, ◌++◌, get_or, refl, sym, ap, subst, ◌∙◌}
+use Rattle.std.specs.Prelude.{Option, Some, None, is_some, flat_map, filter, if◌then◌else◌}
 use Rattle.std.specs.Str.{bytes_eq}
 use Rattle.std.specs.List.{list_any}
-use Rattle.std.proofs.lemmas.Bool.{false≢true, or_left, and_parts, and_from, false_from_ne_true}
+use Rattle.std.proofs.lemmas.Bool.{false≢true}
 use Rattle.std.proofs.lemmas.Slice.Eq.{bytes_eq-Decides}
-use Rattle.policy_model.specs.Policy.{Policy, Net, Router, Iface, no_net, no_router, no_iface, net_of, router_of, iface_of}
-use Rattle.spoc_ast.specs.Written.{Lexeme, PortText, NetPartText, NetIp, NetHost, NetNat, NetIdle, RoutPartText, RoutManaged, RoutModel, RoutRouting, RoutIface, RoutIdle, DeclText, NetworkDecl, RouterDecl, GroupDecl, AreaDecl, AggregateDecl, ProtocolDecl, ProtocolGroupDecl, RestrictionDecl, ServiceDecl}
-use Rattle.policy_decls.specs.Names.{NameKind, NetworkName, RouterName, IfaceName, same_kind, Mention, mention, mention_port, names_in_net_part, names_in_rout_part, names_in, declared_names}
+use Rattle.policy_model.specs.Policy.{Net, Router, no_net, no_router, net_of, router_of}
+use Rattle.spoc_ast.specs.Written.{Lexeme, NetPartText, NetIp, NetHost, NetNat, NetIdle, RoutPartText, RoutManaged, RoutModel, RoutRouting, RoutIface, RoutIdle, DeclText, NetworkDecl, RouterDecl, GroupDecl, AreaDecl, AggregateDecl, ProtocolDecl, ProtocolGroupDecl, RestrictionDecl, ServiceDecl}
+use Rattle.policy_decls.specs.Names.{NameKind, NetworkName, RouterName, same_kind, Mention, mention, names_in_net_part, names_in_rout_part, names_in}
 use Rattle.policy_decls.specs.Uses.{names_it}
-use Rattle.policy_decls.specs.Lookup.{first_given, network_called, router_called, own_prefix, is_managed_router, IfaceText, ifaces_in_part, ifaces_in, declared_ifaces}
-use Rattle.policy_decls.specs.Said.{names_of, or_zero, number_of_name, number_of_port, cidr_or_any, device_in, Adds, adds_of, policy_said, iface_said}
-use Rattle.decl_laws.proofs.Cuts.{place, place_passes, number_is_place, place_map, filter_flat}
+use Rattle.policy_decls.specs.Lookup.{first_given, network_called, router_called, own_prefix, is_managed_router}
+use Rattle.policy_decls.specs.Said.{names_of, number_of_name, cidr_or_any, adds_of, policy_said}
+use Rattle.decl_laws.proofs.Cuts.{place, number_is_place, filter_flat}
 
 -- ---- texts
 

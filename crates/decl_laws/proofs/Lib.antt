@@ -6,3 +6,7 @@ pub mod Owners
 pub mod Shaped
 pub mod Addressed
 pub mod Spelling
+pub mod Numbers
+pub mod Equipped
+pub mod Restricted
+pub mod WellFormed

@@ -1,26 +1,24 @@
 -- Whose an interface is, which declaration a name means, and that names that are used have a number.
-use Rattle.std.proofs.Common.{◌≡◌, ℕ, zero, suc, ◌+◌, ◌<◌, ◌≤◌, ◌⊎◌, inl, inr, Bool, true, false, not, cond, ◌||◌, ◌&&◌, List, [], ◌∷◌, ◌++◌, length, map, get_or, refl, sym, ap, subst, ◌∙◌, ⊎_elim, arith}
-use Rattle.std.specs.Prelude.{Option, Some, None, is_some, position, flat_map, filter, if◌then◌else◌, ◌==◌}
+use Rattle.std.proofs.Common.{◌≡◌, ◌<◌, inl, inr, Bool, true, false, ◌||◌, ◌&&◌, List, [], ◌∷◌, ◌++◌, length, map, get_or, refl, sym, ap, subst, ◌∙◌, arith}
+use Rattle.std.specs.Prelude.{Option, Some, None, flat_map, filter, if◌then◌else◌}
 use Rattle.std.specs.Str.{bytes_eq}
 use Rattle.std.specs.List.{list_any}
 use Rattle.std.proofs.lemmas.List.{map-append, length-map, get_or-map}
 use Rattle.std.proofs.lemmas.List.Concat.{flat_map-append}
-use Rattle.std.proofs.lemmas.Option.{same_Some}
-use Rattle.std.proofs.lemmas.Bool.{false≢true, and_parts, and_from, false_from_ne_true, eqb-true, eq-eqb, cond-false, cases_Bool, not_from_false}
-use Rattle.policy_model.specs.Lists.{once_each}
-use Rattle.policy_model.specs.Policy.{Policy, Iface, no_iface, iface_of, router_at, net_at, is_managed}
+use Rattle.std.proofs.lemmas.Bool.{false≢true, and_parts, and_from, false_from_ne_true, eqb-true, eq-eqb}
+use Rattle.policy_model.specs.Policy.{Iface, no_iface, iface_of, router_at, is_managed}
 use Rattle.policy_model.proofs.AllWalks.{IsIn, in_flat_map, in_filter}
-use Rattle.list_laws.proofs.Members.{some_in, some_of, from_filter}
+use Rattle.list_laws.proofs.Members.{some_in, some_of}
 use Rattle.list_laws.proofs.Tables.{from_flat_map}
 use Rattle.spoc_ast.specs.Written.{Lexeme, PortText, IfPartText, RoutPartText, RoutManaged, RoutModel, RoutRouting, RoutIface, RoutIdle, NetPartText, NetIp, NetHost, NetNat, NetIdle, DeclText, NetworkDecl, RouterDecl, GroupDecl, AreaDecl, AggregateDecl, ProtocolDecl, ProtocolGroupDecl, RestrictionDecl, ServiceDecl}
-use Rattle.policy_decls.specs.Names.{NameKind, NetworkName, TagName, RouterName, IfaceName, same_kind, Mention, mention, mention_port, names_in_net_part, names_in_rout_part, names_in, declared_names, same_name}
+use Rattle.policy_decls.specs.Names.{NameKind, NetworkName, RouterName, IfaceName, same_kind, Mention, mention, mention_port, names_in_net_part, names_in_rout_part, names_in, declared_names, same_name}
 use Rattle.policy_decls.specs.Uses.{used_names, names_it}
-use Rattle.policy_decls.specs.Lookup.{first_given, or_nothing, network_called, network_parts, router_called, router_parts, is_managed_router, IfaceText, ifaces_in_part, ifaces_in, declared_ifaces}
-use Rattle.policy_decls.specs.Said.{same_text, names_of, tag_names, number_of_name, number_of_port, policy_said, iface_said}
+use Rattle.policy_decls.specs.Lookup.{first_given, or_nothing, network_called, router_called, router_parts, is_managed_router, IfaceText, ifaces_in_part, ifaces_in, declared_ifaces}
+use Rattle.policy_decls.specs.Said.{names_of, number_of_name, number_of_port, policy_said, iface_said}
 use Rattle.policy_decls.specs.Faults.{name_twice, name_unknown}
-use Rattle.decl_laws.proofs.Cuts.{CutAt, cut_in, in_get, place, place_passes, number_is_place, place_map, filter_flat}
+use Rattle.decl_laws.proofs.Cuts.{cut_in, in_get, place, place_passes, number_is_place, filter_flat}
 use Rattle.decl_laws.proofs.Absent.{stands_once, is_known}
-use Rattle.decl_laws.proofs.Found.{same_from, same_to, Found, given_here, given_later, none_kept, is_of, net_found, router_found}
+use Rattle.decl_laws.proofs.Found.{same_from, same_to, given_here, given_later, none_kept, is_of, router_found}
 
 -- ---- a name means the one declaration that gives it
 
@@ -29,7 +27,7 @@ pub not_before : (decls : List DeclText) → name_twice decls ≡ None → (befo
     names_in d ≡ m ∷ ms → decls ≡ before ++ d ∷ after → (e : DeclText) → IsIn e before → (n : Mention) → IsIn n (names_in e) → same_name m n ≡ false
 not_before decls none before d after m ms first cut e h n g =
     let whole : declared_names decls ≡ flat_map names_in before ++ m ∷ (ms ++ flat_map names_in after) =
-        ap (flat_map names_in) cut ∙ flat_map-append names_in before (d ∷ after) ∙ ap (λ l. flat_map names_in before ++ (l ++ flat_map names_in after)) first in
+    ap (flat_map names_in) cut ∙ flat_map-append names_in before (d ∷ after) ∙ ap (λ l. flat_map names_in before ++ (l ++ flat_map names_in after)) first in
     let no_other = stands_once decls none (flat_map names_in before) m (ms ++ flat_map names_in after) whole in
     false_from_ne_true (same_name m n) (λ t. false≢true (sym no_other ∙ some_of (same_name m) n (flat_map names_in before) (in_flat_map names_in e n before h g) t))
 
@@ -81,8 +79,8 @@ network_once decls none name desc parts h =
     let w = cut_in d decls h in
     ap (first_given (network_called name.text)) w.is
     ∙ first_once (network_called name.text) w.before d w.after parts
-        (λ e g. no_network_before name e (λ n i. not_before decls none w.before d w.after (mention NetworkName name) (flat_map (names_in_net_part name) parts) refl w.is e g n i))
-        (chosen (bytes_eq name.text name.text) parts (same_to name.text name.text refl))
+    (λ e g. no_network_before name e (λ n i. not_before decls none w.before d w.after (mention NetworkName name) (flat_map (names_in_net_part name) parts) refl w.is e g n i))
+    (chosen (bytes_eq name.text name.text) parts (same_to name.text name.text refl))
 
 pub router_once : (decls : List DeclText) → name_twice decls ≡ None → (name : Lexeme) (desc : Option Lexeme) (parts : List RoutPartText) →
     IsIn (RouterDecl name desc parts) decls → first_given (router_called name.text) decls ≡ Some parts
@@ -91,8 +89,8 @@ router_once decls none name desc parts h =
     let w = cut_in d decls h in
     ap (first_given (router_called name.text)) w.is
     ∙ first_once (router_called name.text) w.before d w.after parts
-        (λ e g. no_router_before name e (λ n i. not_before decls none w.before d w.after (mention RouterName name) (flat_map (names_in_rout_part name) parts) refl w.is e g n i))
-        (chosen (bytes_eq name.text name.text) parts (same_to name.text name.text refl))
+    (λ e g. no_router_before name e (λ n i. not_before decls none w.before d w.after (mention RouterName name) (flat_map (names_in_rout_part name) parts) refl w.is e g n i))
+    (chosen (bytes_eq name.text name.text) parts (same_to name.text name.text refl))
 
 -- ---- names have numbers
 
@@ -247,12 +245,12 @@ port_at decls port h =
     let passes : test (iface_mention i) ≡ true = sym (ap test (get_or-map iface_mention ifs n none (mention_port port) below)) ∙ w.1 in
     let a = and_parts (same_kind IfaceName IfaceName && bytes_eq port.net.text i.net.text) _ passes in
     record {
-        iface = i;
-        there = in_get ifs n none below;
-        at = ap (λ k. iface_of (policy_said decls) k) number ∙ get_or-map (iface_said decls) ifs n none no_iface below;
-        within = omega (arith, number, below);
-        router = sym (same_from port.router.text i.router.text a.1);
-        net = sym (same_from port.net.text i.net.text a.0);
+      iface = i;
+      there = in_get ifs n none below;
+      at = ap (λ k. iface_of (policy_said decls) k) number ∙ get_or-map (iface_said decls) ifs n none no_iface below;
+      within = omega (arith, number, below);
+      router = sym (same_from port.router.text i.router.text a.1);
+      net = sym (same_from port.net.text i.net.text a.0);
     }
 
 -- a port's router is managed where the parts of the router of that name say so
@@ -274,6 +272,7 @@ one_port decls p q h g e =
     let m : Mention = get_or names (place (names_it (mention_port q)) names) (mention_port p) in
     let first : names_it (mention_port p) m ≡ true = sym (ap (λ n. names_it (mention_port p) (get_or names n (mention_port p))) places) ∙ v.1 in
     let a = and_parts (same_kind IfaceName m.kind && bytes_eq p.net.text m.text) _ first in
-    let b = and_parts (same_kind IfaceName m.kind && bytes_eq q.net.text m.text) _ w.1 in
-    (same_from p.router.text m.owner a.1 ∙ sym (same_from q.router.text m.owner b.1),
-     same_from p.net.text m.text (and_parts (same_kind IfaceName m.kind) _ a.0).1 ∙ sym (same_from q.net.text m.text (and_parts (same_kind IfaceName m.kind) _ b.0).1))
+    let b = and_parts (same_kind IfaceName m.kind && bytes_eq q.net.text m.text) _ w.1 in (
+      same_from p.router.text m.owner a.1 ∙ sym (same_from q.router.text m.owner b.1),
+      same_from p.net.text m.text (and_parts (same_kind IfaceName m.kind) _ a.0).1 ∙ sym (same_from q.net.text m.text (and_parts (same_kind IfaceName m.kind) _ b.0).1),
+    )

@@ -1,21 +1,20 @@
 -- What the rows of shapes say of a declaration in which nothing stands that must not.
-use Rattle.std.proofs.Common.{◌≡◌, ℕ, zero, suc, ◌+◌, ◌-◌, ◌<◌, ◌≤◌, ◌⊎◌, inl, inr, Bool, true, false, not, ◌||◌, ◌&&◌, List, [], ◌∷◌, ◌++◌, length, map, refl, sym, ap, subst, ◌∙◌, ⊎_elim, arith}
-use Rattle.std.specs.Prelude.{Option, Some, None, is_some, flat_map, option_and_then, ◌==◌, ◌%◌, nat_lt, IsTrue, if◌then◌else◌}
+use Rattle.std.proofs.Common.{◌≡◌, ℕ, suc, ◌-◌, inl, inr, Bool, true, false, not, List, [], ◌∷◌, ◌++◌, length, refl, sym, ap, subst, ◌∙◌, arith}
+use Rattle.std.specs.Prelude.{Option, Some, None, is_some, flat_map, option_and_then, ◌%◌, if◌then◌else◌}
 use Rattle.std.specs.List.{list_any, list_all, slice_get}
 use Rattle.std.proofs.lemmas.Option.{none-some, same_Some}
-use Rattle.std.proofs.lemmas.Bool.{false≢true, true≢false, or_parts, or_left, and_parts, and_from, false_from_ne_true, not-false, not_from_false, ltb-false, eqb-true}
-use Rattle.spoc_base.specs.Address.{Cidr, size_of, addresses, interval_covers, prefix_holds}
-use Rattle.policy_model.specs.Lists.{is_nothing}
-use Rattle.policy_model.proofs.AllWalks.{IsIn, in_flat_map, in_front, in_back}
+use Rattle.std.proofs.lemmas.Bool.{false≢true, or_parts, and_from, false_from_ne_true, not-false, ltb-false, eqb-true}
+use Rattle.spoc_base.specs.Address.{Cidr, size_of}
+use Rattle.policy_model.proofs.AllWalks.{IsIn, in_front}
 use Rattle.list_laws.proofs.Members.{some_of, each_in}
 use Rattle.list_laws.proofs.Tables.{from_flat_map}
-use Rattle.spoc_ast.specs.Written.{Lexeme, PortText, HostPartText, NatPartText, NatIp, NetPartText, NetIp, NetHost, NetNat, NetIdle, RoutPartText, AreaPartText, DeclText, NetworkDecl, RouterDecl, GroupDecl, AreaDecl, AggregateDecl, ProtocolDecl, ProtocolGroupDecl, RestrictionDecl, ServiceDecl}
-use Rattle.policy_decls.specs.Numbers.{prefix_of, address_of, holds_of}
-use Rattle.policy_decls.specs.Lookup.{ips_in_net_part, ips_in_nat_part, ips_in_nats, only_one, own_prefix, aligned, has_host_bit, IfaceText, ifaces_in, declared_ifaces}
-use Rattle.policy_decls.specs.Shapes.{has_one, hosts_in, nats_in, lacks_prefix, spans_in, is_bad_host, interval_in, leaves, is_unaligned, has_unaligned, has_other_length, is_bad_device, is_bad_iface, is_outside, has_address_of, clash_with, has_hardware_of, is_bad_binding, is_bad_restriction, is_bad_area, first_true, shape_in}
+use Rattle.spoc_ast.specs.Written.{Lexeme, PortText, NetPartText, NetIp, NetHost, NetNat, NetIdle, AreaPartText, DeclText, NetworkDecl, RouterDecl, GroupDecl, AreaDecl, AggregateDecl, ProtocolDecl, ProtocolGroupDecl, RestrictionDecl, ServiceDecl}
+use Rattle.policy_decls.specs.Numbers.{prefix_of, holds_of}
+use Rattle.policy_decls.specs.Lookup.{ips_in_net_part, ips_in_nats, only_one, own_prefix, aligned, has_host_bit, IfaceText, ifaces_in, declared_ifaces}
+use Rattle.policy_decls.specs.Shapes.{has_one, hosts_in, lacks_prefix, is_bad_host, leaves, is_unaligned, has_unaligned, has_other_length, is_bad_device, is_bad_iface, is_outside, has_address_of, clash_with, has_hardware_of, is_bad_binding, is_bad_restriction, is_bad_area, first_true, shape_in}
 use Rattle.policy_decls.specs.Faults.{first_shape}
-use Rattle.policy_decls.specs.Formed.{says_prefix, is_formed_nat, is_formed_net, is_formed}
-use Rattle.decl_laws.proofs.Cuts.{CutAt, cut_in}
+use Rattle.policy_decls.specs.Formed.{says_prefix, is_formed_net, is_formed}
+use Rattle.decl_laws.proofs.Cuts.{cut_in}
 use Rattle.decl_laws.proofs.Absent.{has_shape}
 
 -- ---- tests that fail on a whole list
@@ -77,8 +76,8 @@ pub net_shape : (decls : List DeclText) (earlier : List IfaceText) (name : Lexem
     shape_in decls earlier (NetworkDecl name desc parts) ≡ None → NetShape parts
 net_shape decls earlier name desc parts e =
     let rows : List (ℕ × Bool) =
-        (1, lacks_prefix parts) ∷ (2, list_any is_bad_host (flat_map hosts_in parts)) ∷ (3, holds_of (λ p. list_any (leaves p) (flat_map hosts_in parts)) (own_prefix parts))
-        ∷ (4, has_unaligned parts) ∷ (5, holds_of (λ p. has_other_length p parts) (own_prefix parts)) ∷ [] in
+    (1, lacks_prefix parts) ∷ (2, list_any is_bad_host (flat_map hosts_in parts)) ∷ (3, holds_of (λ p. list_any (leaves p) (flat_map hosts_in parts)) (own_prefix parts))
+    ∷ (4, has_unaligned parts) ∷ (5, holds_of (λ p. has_other_length p parts) (own_prefix parts)) ∷ [] in
     let w = rows_absent rows e in
     record { one = w.0; hosts = w.1.0; stay = w.1.1.0; aligned = w.1.1.1.0; lengths = w.1.1.1.1.0 }
 
@@ -128,8 +127,8 @@ router_shape decls earlier (NetworkDecl name desc parts) e = no_ifaces decls ear
 router_shape decls earlier (RouterDecl name desc parts) e =
     let ifaces = ifaces_in (RouterDecl name desc parts) in
     let rows : List (ℕ × Bool) =
-        (6, is_bad_device parts) ∷ (7, list_any is_bad_iface ifaces) ∷ (8, list_any (is_outside decls) ifaces) ∷ (9, clash_with has_address_of earlier ifaces)
-        ∷ (10, clash_with has_hardware_of [] ifaces) ∷ (11, list_any is_bad_binding ifaces) ∷ [] in
+    (6, is_bad_device parts) ∷ (7, list_any is_bad_iface ifaces) ∷ (8, list_any (is_outside decls) ifaces) ∷ (9, clash_with has_address_of earlier ifaces)
+    ∷ (10, clash_with has_hardware_of [] ifaces) ∷ (11, list_any is_bad_binding ifaces) ∷ [] in
     let w = rows_absent rows e in
     record { parts = w.1.0; inside = w.1.1.0; addresses = w.1.1.1.0; hardware = w.1.1.1.1.0; binds = w.1.1.1.1.1.0 }
 router_shape decls earlier (GroupDecl name desc objects) e = no_ifaces decls earlier

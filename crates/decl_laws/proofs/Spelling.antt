@@ -1,12 +1,12 @@
 -- An address has one spelling.
-use Rattle.std.proofs.Common.{◌≡◌, ℕ, zero, suc, ◌+◌, ◌-◌, ◌*◌, ◌<◌, ◌≤◌, Bool, true, false, not, cond, ◌&&◌, List, [], ◌∷◌, ◌++◌, length, get_or, take, drop, refl, sym, ap, subst, ◌∙◌, ltb, arith}
+use Rattle.std.proofs.Common.{◌≡◌, ℕ, ◌+◌, ◌-◌, ◌*◌, ◌<◌, ◌≤◌, Bool, true, false, not, cond, ◌&&◌, List, [], ◌∷◌, ◌++◌, length, get_or, take, drop, refl, sym, ap, ◌∙◌, ltb, arith}
 use Rattle.std.specs.Prelude.{Option, Some, None, position, option_map, option_and_then, ◌==◌, ◌/◌, ◌%◌, nat_le, fold, if◌then◌else◌}
 use Rattle.std.specs.List.{list_all}
 use Rattle.std.proofs.lemmas.List.Quantifiers.{position-Some}
 use Rattle.std.proofs.lemmas.Option.{none-some, same_Some, cond_some}
-use Rattle.std.proofs.lemmas.Bool.{false≢true, true≢false, and_parts, leb-true, eqb-true, eqb-false, lt-ltb, le-ltb, not-true, cond-true, cond-false}
+use Rattle.std.proofs.lemmas.Bool.{false≢true, and_parts, leb-true, eqb-true, eqb-false, lt-ltb, le-ltb, not-true, cond-true, cond-false}
 use Rattle.policy_model.specs.Lists.{is_nothing}
-use Rattle.policy_decls.specs.Numbers.{is_digit, has_leading_zero, is_number, value_of, number_of, at_most, number_to, cut_at, cut_by, address_from, address_of}
+use Rattle.policy_decls.specs.Numbers.{is_digit, has_leading_zero, is_number, value_of, at_most, number_to, cut_by, address_from, address_of}
 use Rattle.decl_laws.proofs.Cuts.{cut_at_index}
 
 -- ---- a number up to 255 in decimal digits
@@ -146,11 +146,17 @@ four_from text n h =
     let r = part_from w.first x.2 x.6 in
     let s = part_from w.rest x.3 x.7 in
     record {
-        a = x.0; b = x.1; c = x.2; d = x.3;
-        is = u.is ∙ ap (λ l. l ++ 46 ∷ u.rest) p.is ∙ ap (λ l. spell x.0 ++ 46 ∷ l) (v.is ∙ ap (λ l. l ++ 46 ∷ v.rest) q.is
-            ∙ ap (λ l. spell x.1 ++ 46 ∷ l) (w.is ∙ ap (λ l. l ++ 46 ∷ w.rest) r.is ∙ ap (λ l. spell x.2 ++ 46 ∷ l) s.is));
-        low_a = p.low; low_b = q.low; low_c = r.low; low_d = s.low;
-        sum = x.8;
+      a = x.0;
+      b = x.1;
+      c = x.2;
+      d = x.3;
+      is = u.is ∙ ap (λ l. l ++ 46 ∷ u.rest) p.is ∙ ap (λ l. spell x.0 ++ 46 ∷ l) (v.is ∙ ap (λ l. l ++ 46 ∷ v.rest) q.is
+          ∙ ap (λ l. spell x.1 ++ 46 ∷ l) (w.is ∙ ap (λ l. l ++ 46 ∷ w.rest) r.is ∙ ap (λ l. spell x.2 ++ 46 ∷ l) s.is));
+      low_a = p.low;
+      low_b = q.low;
+      low_c = r.low;
+      low_d = s.low;
+      sum = x.8;
     }
 
 pub one_spelling : (text other : List ℕ) (n : ℕ) → address_of text ≡ Some n → address_of other ≡ Some n → text ≡ other
