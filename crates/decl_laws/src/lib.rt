@@ -3,4 +3,4 @@
 
 mod well_formed;
 
-pub use well_formed::declarations_without_fault_are_well_formed;
+pub use well_formed::policies_said_are_well_formed;
