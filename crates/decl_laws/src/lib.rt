@@ -1,0 +1,6 @@
+//! Declarations without a fault say a sound policy. The functions here do nothing: each has a law as its contract.
+#![tactic(auto)]
+
+mod named;
+
+pub use named::{names_without_fault_are_numbered};
