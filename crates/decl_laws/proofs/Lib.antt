@@ -1,4 +1,5 @@
 pub mod Rows
 pub mod Places
 pub mod Taken
+pub mod NamesByKind
 pub mod Numbered
