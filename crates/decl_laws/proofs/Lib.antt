@@ -2,4 +2,5 @@ pub mod Rows
 pub mod Places
 pub mod Taken
 pub mod NamesByKind
+pub mod Numbers
 pub mod Numbered

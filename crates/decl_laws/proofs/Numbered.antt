@@ -8,6 +8,7 @@ use Rattle.policy_decls.specs.Faults.{fault_of}
 use Rattle.policy_decls.specs.Formed.{are_formed}
 use Rattle.decl_laws.proofs.Rows.{HasNoFault, no_rows}
 use Rattle.decl_laws.proofs.Places.{at_in}
+use Rattle.decl_laws.proofs.Numbers.{net_below}
 use Rattle.decl_laws.proofs.NamesByKind.{as_many}
 use Rattle.decl_laws.proofs.Taken.{IsFaultless, each_faultless, apart_names}
 
