@@ -3,4 +3,5 @@ pub mod Places
 pub mod Taken
 pub mod NamesByKind
 pub mod Numbers
+pub mod Declared
 pub mod Numbered
