@@ -5,3 +5,4 @@ pub mod NamesByKind
 pub mod Numbers
 pub mod Declared
 pub mod Numbered
+pub mod Distinct

@@ -1,14 +1,18 @@
 //! Numbers, names, sets and limits of the policy that declarations say.
 
-ghost use Rattle.std.specs.Prelude.{◌≡◌, ◌<◌, ◌^◌, List, length, None, IsTrue};
-ghost use Rattle.topology.specs.Sound.{IsNumbered};
+ghost use Rattle.std.specs.Prelude.{◌≡◌, List, None, IsTrue};
+ghost use Rattle.topology.specs.Sound.{IsNumbered, IsNamed};
 ghost use Rattle.spoc_ast.specs.Written.{DeclText};
-ghost use Rattle.policy_decls.specs.Names.{declared_names};
 ghost use Rattle.policy_decls.specs.Said.{policy_said};
 ghost use Rattle.policy_decls.specs.Faults.{fault_of};
 ghost use Rattle.policy_decls.specs.Formed.{are_formed};
 
 /// Each number that stands in the policy is that of a thing that is declared.
-pub fn names_without_fault_are_numbered()
+pub fn policies_said_are_numbered()
     ensures { (decls : List DeclText) → IsTrue (are_formed decls) → fault_of decls ≡ None → IsNumbered (policy_said decls) }
+{}
+
+/// No two things of one kind have one name, and no two interfaces of a router one network.
+pub fn policies_said_are_named()
+    ensures { (decls : List DeclText) → IsTrue (are_formed decls) → fault_of decls ≡ None → IsNamed (policy_said decls) }
 {}
