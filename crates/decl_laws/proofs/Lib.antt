@@ -6,3 +6,5 @@ pub mod Numbers
 pub mod Declared
 pub mod Numbered
 pub mod Distinct
+pub mod Stands
+pub mod SoundSets
