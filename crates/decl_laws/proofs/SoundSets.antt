@@ -83,9 +83,6 @@ module _ (decls : List DeclText) (apart : AreApart same_name (declared_names dec
       by i g (inl e) = or_left (is_managed (policy_said decls) (iface_said decls i).router) (is_some (iface_said decls i).addr) (managed_iface decls apart i g ∙ e)
       by i g (inr e) = or_right (is_managed (policy_said decls) (iface_said decls i).router) (is_some (iface_said decls i).addr) (address_there i g e)
 
-  -- what a set without a bare port names is there
-  pub sound_set : (user bracket : Bool) (e : SetText) → is_formed_set user bracket e ≡ true → ((used : Mention) → IsIn used (uses_in_set e) → IsDeclared decls used) →
-      ((port : PortText) → IsIn port (ports_in e) → is_bare_port decls port ≡ false) → is_sound_expr (policy_said decls) user bracket (expr_in decls e) ≡ true
   sound_both : (user bracket : Bool) (e f : SetText) → (is_formed_set user bracket e && is_formed_set user bracket f) ≡ true → ((used : Mention) → IsIn used (uses_in_set e ++ uses_in_set f) → IsDeclared decls used) →
       ((port : PortText) → IsIn port (ports_in e ++ ports_in f) → is_bare_port decls port ≡ false) →
       (is_formed_set user bracket e ≡ true → ((used : Mention) → IsIn used (uses_in_set e) → IsDeclared decls used) → ((port : PortText) → IsIn port (ports_in e) → is_bare_port decls port ≡ false) →
@@ -98,6 +95,10 @@ module _ (decls : List DeclText) (apart : AreApart same_name (declared_names dec
       and_from (is_sound_expr (policy_said decls) user bracket (expr_in decls e)) (is_sound_expr (policy_said decls) user bracket (expr_in decls f))
       (left a.0 (λ used h. uses used (in_front used (uses_in_set e) (uses_in_set f) h)) (λ port h. ports port (in_front port (ports_in e) (ports_in f) h)))
       (right a.1 (λ used h. uses used (in_back used (uses_in_set e) (uses_in_set f) h)) (λ port h. ports port (in_back port (ports_in e) (ports_in f) h)))
+
+  -- what a set without a bare port names is there
+  pub sound_set : (user bracket : Bool) (e : SetText) → is_formed_set user bracket e ≡ true → ((used : Mention) → IsIn used (uses_in_set e) → IsDeclared decls used) →
+      ((port : PortText) → IsIn port (ports_in e) → is_bare_port decls port ≡ false) → is_sound_expr (policy_said decls) user bracket (expr_in decls e) ≡ true
   sound_set user bracket NoParts formed uses ports = refl
   sound_set user bracket (NetworkNamed name) formed uses ports = lt-ltb _ _ (net_below decls name (uses (mention NetworkName name) (inl refl)))
   sound_set user bracket (HostNamed name) formed uses ports = lt-ltb _ _ (host_below decls name (uses (mention HostName name) (inl refl)))
@@ -137,9 +138,9 @@ module _ (decls : List DeclText) (apart : AreApart same_name (declared_names dec
       let src = uses_in_set rule.src in
       let rest = flat_map uses_in_prt rule.prts in
       let sources : is_sound_expr (policy_said decls) true false (expr_in decls rule.src) ≡ true =
-          sound_set true false rule.src b.0 (λ used h. uses used (in_front used src (uses_in_set rule.dst ++ rest) h)) (λ port h. ports port (in_front port (ports_in rule.src) (ports_in rule.dst ++ []) h)) in
+          sound_set true false rule.src b.0 (λ used h. uses used (in_front used (src ++ uses_in_set rule.dst) rest (in_front used src (uses_in_set rule.dst) h))) (λ port h. ports port (in_front port (ports_in rule.src) (ports_in rule.dst ++ []) h)) in
       let destinations : is_sound_expr (policy_said decls) true false (expr_in decls rule.dst) ≡ true =
-          sound_set true false rule.dst b.1 (λ used h. uses used (in_back used src (uses_in_set rule.dst ++ rest) (in_front used (uses_in_set rule.dst) rest h)))
+          sound_set true false rule.dst b.1 (λ used h. uses used (in_front used (src ++ uses_in_set rule.dst) rest (in_back used src (uses_in_set rule.dst) h)))
           (λ port h. ports port (in_back port (ports_in rule.src) (ports_in rule.dst ++ []) (in_front port (ports_in rule.dst) [] h))) in
       let named : (names_user (expr_in decls rule.src) || names_user (expr_in decls rule.dst)) ≡ true =
           ap (λ c. c || names_user (expr_in decls rule.dst)) (user_named decls rule.src) ∙ ap (λ c. says_user rule.src || c) (user_named decls rule.dst) ∙ not-false (says_user rule.src || says_user rule.dst) user in
