@@ -8,3 +8,5 @@ pub mod Numbered
 pub mod Distinct
 pub mod Stands
 pub mod SoundSets
+pub mod Chains
+pub mod Limited

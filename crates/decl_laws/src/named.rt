@@ -1,8 +1,9 @@
 //! Numbers, names, sets and limits of the policy that declarations say.
 
-ghost use Rattle.std.specs.Prelude.{◌≡◌, List, None, IsTrue};
-ghost use Rattle.topology.specs.Sound.{IsNumbered, IsNamed, HasSoundSets};
+ghost use Rattle.std.specs.Prelude.{◌≡◌, ◌<◌, ◌^◌, List, length, None, IsTrue};
+ghost use Rattle.topology.specs.Sound.{IsNumbered, IsNamed, HasSoundSets, IsLimited};
 ghost use Rattle.spoc_ast.specs.Written.{DeclText};
+ghost use Rattle.policy_decls.specs.Names.{declared_names};
 ghost use Rattle.policy_decls.specs.Said.{policy_said};
 ghost use Rattle.policy_decls.specs.Faults.{fault_of};
 ghost use Rattle.policy_decls.specs.Formed.{are_formed};
@@ -21,4 +22,9 @@ pub fn policies_said_are_named()
 /// inside brackets alone.
 pub fn sets_said_are_sound()
     ensures { (decls : List DeclText) → IsTrue (are_formed decls) → fault_of decls ≡ None → HasSoundSets (policy_said decls) }
+{}
+
+/// No limit is passed, where fewer than 2^32 names are declared.
+pub fn policies_said_are_limited()
+    ensures { (decls : List DeclText) → IsTrue (are_formed decls) → fault_of decls ≡ None → length (declared_names decls) < 2 ^ 32 → IsLimited (policy_said decls) }
 {}
