@@ -101,7 +101,7 @@ module _ (decls : List DeclText) where
   parts_of (RouterDecl name desc parts) = parts
   parts_of _ = []
 
-  device_there : (parts : List RoutPartText) → is_some (device_in parts) ≡ is_managed_router parts
+  pub device_there : (parts : List RoutPartText) → is_some (device_in parts) ≡ is_managed_router parts
   device_there parts = by (is_managed_router parts) _
     where
       by : {A : Type 0} (b : Bool) (x : A) → is_some (cond b (Some x) None) ≡ b
