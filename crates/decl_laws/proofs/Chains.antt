@@ -1,13 +1,13 @@
 -- Chains of groups are no longer than groups nest.
-use Rattle.std.proofs.Common.{◌≡◌, ◌⊎◌, inl, inr, ⊎_elim, refl, sym, ap, subst, ◌∙◌, ℕ, zero, suc, ◌<◌, ◌≤◌, Bool, true, false, ◌&&◌, ◌||◌, List, [], ◌∷◌, ◌++◌, length, map, Option, Some, None, nat_lt, arith}
+use Rattle.std.proofs.Common.{◌≡◌, inl, inr, ⊎_elim, refl, sym, ap, subst, ◌∙◌, ℕ, zero, suc, ◌<◌, ◌≤◌, true, false, ◌&&◌, List, [], ◌∷◌, ◌++◌, length, Option, Some, None, nat_lt, arith}
 use Rattle.std.specs.Prelude.{flat_map, filter, ◌==◌}
 use Rattle.std.specs.Str.{bytes_eq}
 use Rattle.std.specs.List.{list_any}
-use Rattle.std.proofs.lemmas.Bool.{false≢true, and_parts, and_from, or_left, cases_lt, ltb-true, eqb-true}
+use Rattle.std.proofs.lemmas.Bool.{false≢true, and_parts, or_left, cases_lt, ltb-true, eqb-true}
 use Rattle.topology.specs.Sound.{groups_in, is_chain}
 use Rattle.policy_model.specs.Lists.{has}
 use Rattle.policy_model.specs.Policy.{Group, no_group, group_of}
-use Rattle.spoc_ast.specs.Written.{Lexeme, SetText, NoParts, NetworkNamed, HostNamed, PortNamed, GroupNamed, AggregateNamed, AreaNamed, UserNamed, NetworksIn, HostsIn, ZonesIn, Joining, Keeping, Leaving, DeclText, NetworkDecl, RouterDecl, GroupDecl, AreaDecl, AggregateDecl, ProtocolDecl, ProtocolGroupDecl, RestrictionDecl, ServiceDecl}
+use Rattle.spoc_ast.specs.Written.{Lexeme, SetText, NoParts, NetworkNamed, HostNamed, PortNamed, GroupNamed, AggregateNamed, AreaNamed, UserNamed, NetworksIn, HostsIn, ZonesIn, Joining, Keeping, Leaving, DeclText, GroupDecl}
 use Rattle.policy_decls.specs.Names.{GroupName, same_kind, Mention, mention, names_in, declared_names, same_name}
 use Rattle.policy_decls.specs.Uses.{uses_in_set, uses_in_objects, uses_in}
 use Rattle.policy_decls.specs.Nesting.{is_nesting, nesting_names, nested_in, nests}
@@ -18,9 +18,9 @@ use Rattle.list_laws.proofs.Tables.{from_flat_map}
 use Rattle.decl_laws.proofs.Places.{at_in, none_passes}
 use Rattle.decl_laws.proofs.Taken.{IsFaultless}
 use Rattle.decl_laws.proofs.NamesByKind.{group_names}
-use Rattle.decl_laws.proofs.Numbers.{bytes_alike}
-use Rattle.decl_laws.proofs.Declared.{IsDeclared, known}
-use Rattle.decl_laws.proofs.Stands.{IsSaidAt, said_at}
+use Rattle.decl_laws.proofs.NameNumbers.{bytes_alike}
+use Rattle.decl_laws.proofs.Declared.{known}
+use Rattle.decl_laws.proofs.Stands.{said_at}
 
 -- the name that a number in a set is of
 pub record IsGroupIn (decls : List DeclText) (uses : List Mention) (h : ℕ) : Type 0 where
@@ -88,6 +88,9 @@ module _ (decls : List DeclText) where
   nests_same (suc zero) a b e = refl
   nests_same (suc (suc n)) a b e = ap (list_any (nests decls (suc n))) (nested_same a b e)
 
+  nests_alike : (n : ℕ) (a b : Lexeme) → a.text ≡ b.text → nests decls n (mention GroupName a) ≡ true → nests decls n (mention GroupName b) ≡ true
+  nests_alike n a b e h = sym (nests_same n a b e) ∙ h
+
   nested_there : (name : Lexeme) (desc : Option Lexeme) (objects : Option SetText) (used : Mention) → IsIn (GroupDecl name desc objects) decls → IsIn used (uses_in_objects objects) →
       same_kind used.kind GroupName ≡ true → IsIn used (nested_in decls (mention GroupName name))
   nested_there name desc objects used g h kind =
@@ -116,7 +119,7 @@ module _ (decls : List DeclText) where
         let y : IsGroup decls (group_of p h) = subst (λ k. IsGroup decls (group_of p k)) (sym next.number) own in
         let same : y.name.text ≡ next.name.text = sym y.named ∙ ap (λ k. (group_of p k).name) next.number ∙ at.named in
         some_of (nests decls (suc n)) (mention GroupName next.name) (nested_in decls (mention GroupName x.name)) (nested_there x.name x.desc x.objects (mention GroupName next.name) x.there next.used refl)
-        (sym (nests_same (suc n) y.name next.name same) ∙ chain_nests (suc n) h gs a.1 (omega arith) y)
+        (nests_alike (suc n) y.name next.name same (chain_nests (suc n) h gs a.1 (omega arith) y))
 
     pub no_long_chain : (n : ℕ) → 0 < n → list_any (nests decls n) (nesting_names decls) ≡ false → (groups : List ℕ) → is_chain (policy_said decls) groups ≡ true → length groups < n
     no_long_chain n positive none [] chain = positive
@@ -128,6 +131,7 @@ module _ (decls : List DeclText) where
             let p = policy_said decls in
             let a = and_parts (nat_lt g (length p.groups) && has (groups_in (group_of p g).objects) h) (is_chain p (h ∷ hs)) c in
             ltb-true g (length p.groups) (and_parts (nat_lt g (length p.groups)) (has (groups_in (group_of p g).objects) h) a.0).0
+
         too_long : n ≤ length (g ∷ gs) → ⊥
         too_long long =
             let p = policy_said decls in

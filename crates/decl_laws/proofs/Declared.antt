@@ -1,17 +1,17 @@
 -- The names in declarations without a fault are declared.
-use Rattle.std.proofs.Common.{◌≡◌, ◌⊎◌, inl, inr, refl, sym, ap, subst, ◌∙◌, ℕ, Bool, true, false, List, [], ◌∷◌, ◌++◌, Option}
+use Rattle.std.proofs.Common.{◌≡◌, inl, inr, refl, sym, ap, subst, true, List, Option}
 use Rattle.std.specs.Prelude.{flat_map}
 use Rattle.std.specs.List.{list_any}
 use Rattle.std.proofs.lemmas.Bool.{false≢true}
-use Rattle.spoc_ast.specs.Written.{Lexeme, PortText, NetPartText, NetHost, NetNat, IfPartText, IfIp, IfHardware, IfBindNat, IfIdle, RoutPartText, RoutManaged, RoutModel, RoutRouting, RoutIface, RoutIdle, AreaPartText, AreaAnchor, AreaBorder, AreaIdle, AnyPartText, AnyLink, AnyIp, AnyIdle, DeclText, NetworkDecl, RouterDecl, GroupDecl, AreaDecl, AggregateDecl, ProtocolDecl, ProtocolGroupDecl, RestrictionDecl, ServiceDecl}
-use Rattle.policy_decls.specs.Names.{NetworkName, HostName, TagName, RouterName, IfaceName, Mention, mention, mention_in, mention_port, names_in_net_part, names_in_rout_part, names_in, declared_names}
+use Rattle.spoc_ast.specs.Written.{Lexeme, PortText, NetPartText, NetNat, IfPartText, IfIp, IfHardware, IfBindNat, IfIdle, RoutPartText, RoutManaged, RoutModel, RoutRouting, RoutIface, RoutIdle, AreaPartText, AreaAnchor, AreaBorder, AreaIdle, AnyPartText, AnyLink, AnyIp, AnyIdle, DeclText, NetworkDecl, RouterDecl, AreaDecl, AggregateDecl, RestrictionDecl}
+use Rattle.policy_decls.specs.Names.{NetworkName, TagName, RouterName, Mention, mention, mention_in, mention_port, names_in_net_part, names_in, declared_names}
 use Rattle.policy_decls.specs.Uses.{names_it, uses_in_if_part, uses_in_rout_part, uses_in_area_part, uses_in_any_part, uses_in}
 use Rattle.policy_decls.specs.Lookup.{IfaceText, ifaces_in_part, ifaces_in, declared_ifaces, is_managed_router, binds_in, iface_binds}
 use Rattle.policy_decls.specs.Shapes.{anchors_in, borders_in, links_in}
 use Rattle.policy_model.proofs.AllWalks.{IsIn, in_map, in_flat_map}
 use Rattle.list_laws.proofs.Members.{some_of}
 use Rattle.list_laws.proofs.Tables.{from_flat_map}
-use Rattle.decl_laws.proofs.Numbers.{kind_itself, NamesIt, names_it_from}
+use Rattle.decl_laws.proofs.NameNumbers.{kind_itself, names_it_from}
 use Rattle.decl_laws.proofs.Taken.{IsFaultless}
 
 -- the name is declared

@@ -1,26 +1,26 @@
 -- No two things of one kind have one name.
-use Rattle.std.proofs.Common.{◌≡◌, ◌⊎◌, inl, inr, refl, sym, ap, subst, ◌∙◌, ℕ, zero, suc, ◌<◌, Bool, true, false, ◌&&◌, List, [], ◌∷◌, length, map, get_or, Option, Some, None, arith}
-use Rattle.std.specs.Prelude.{IsTrue, flat_map, slice_get}
+use Rattle.std.proofs.Common.{◌≡◌, inl, inr, refl, sym, ap, subst, ◌∙◌, ℕ, zero, suc, ◌<◌, Bool, true, false, ◌&&◌, List, [], ◌∷◌, length, map, get_or, Some, None, arith}
+use Rattle.std.specs.Prelude.{IsTrue, slice_get}
 use Rattle.std.specs.Str.{bytes_eq}
 use Rattle.std.proofs.lemmas.Bool.{false≢true, and_from}
 use Rattle.std.proofs.lemmas.Option.{get_or_from_slice_get, slice_get_within}
 use Rattle.topology.specs.Sound.{IsNamed, AreDistinct}
-use Rattle.policy_model.specs.Policy.{Iface, Policy, no_iface, iface_of, router_at, net_at}
+use Rattle.policy_model.specs.Policy.{no_iface, router_at, net_at}
 use Rattle.spoc_ast.specs.Written.{Lexeme, NetPartText, NetIp, NetHost, NetNat, NetIdle, RoutPartText, RoutManaged, RoutModel, RoutRouting, RoutIface, RoutIdle, DeclText, NetworkDecl, RouterDecl, GroupDecl, AreaDecl, AggregateDecl, ProtocolDecl, ProtocolGroupDecl, RestrictionDecl, ServiceDecl}
 use Rattle.policy_decls.specs.Names.{NameKind, NetworkName, HostName, TagName, RouterName, IfaceName, GroupName, AreaName, AggregateName, ProtocolName, ProtocolGroupName, RestrictionName, ServiceName, same_kind, Mention, mention, names_in_net_part, names_in_rout_part, names_in, declared_names, same_name}
-use Rattle.policy_decls.specs.Lookup.{IfaceText, declared_ifaces}
+use Rattle.policy_decls.specs.Lookup.{declared_ifaces}
 use Rattle.policy_decls.specs.Said.{same_text, names_of, tag_names, number_among, iface_said, policy_said}
 use Rattle.policy_decls.specs.Faults.{fault_of}
 use Rattle.policy_decls.specs.Formed.{are_formed}
 use Rattle.policy_model.proofs.AllWalks.{IsIn, from_map}
 use Rattle.list_laws.proofs.Members.{from_filter}
 use Rattle.list_laws.proofs.Tables.{from_flat_map}
-use Rattle.decl_laws.proofs.Rows.{HasNoFault, no_rows}
+use Rattle.decl_laws.proofs.Rows.{no_rows}
 use Rattle.decl_laws.proofs.Places.{get_in, AreApart, filter_apart, apart_by, apart_places, once_apart, map_apart}
 use Rattle.decl_laws.proofs.Taken.{IsFaultless, each_faultless, apart_names}
 use Rattle.decl_laws.proofs.NamesByKind.{is_of, texts, net_names, host_names, router_names, restriction_names, group_names, area_names, aggregate_names, service_names, tag_texts, iface_mention, iface_names}
-use Rattle.decl_laws.proofs.Numbers.{bytes_same, bytes_alike, says_it, HasNumber, name_number, name_back, kind_onward, kind_back}
-use Rattle.decl_laws.proofs.Declared.{IsIfaceOf, iface_of_decl, iface_router, iface_net}
+use Rattle.decl_laws.proofs.NameNumbers.{bytes_same, bytes_alike, says_it, HasNumber, name_number, name_back, kind_onward, kind_back}
+use Rattle.decl_laws.proofs.Declared.{iface_of_decl, iface_router, iface_net}
 
 -- ---- lists of texts
 
@@ -94,6 +94,7 @@ module _ (decls : List DeclText) (apart : AreApart same_name (declared_names dec
           by : (b : Bool) → same_kind m.kind j ≡ b → same_kind m.kind j ≡ false
           by false x = x
           by true x = absurd (false≢true (sym f ∙ kind_onward k m.kind j (kind_back m.kind k e) x))
+
       none : (m : Mention) → IsIn m (declared_names decls) → same_kind m.kind k ≡ true → m.owner ≡ []
       none m h e = let w = from_flat_map names_in m decls h in no_owner w.0 m w.2 (other m TagName e tags) (other m IfaceName e ifaces)
 
@@ -120,11 +121,11 @@ module _ (decls : List DeclText) (apart : AreApart same_name (declared_names dec
         let a = iface_of_decl decls v.0 (get_in v.0 ifs i v.1) in
         let b = iface_of_decl decls w.0 (get_in w.0 ifs j w.1) in
         let router = one_number (names_of decls RouterName) (mention RouterName v.0.router) (mention RouterName w.0.router)
-            (name_number decls RouterName v.0.router (iface_router decls v.0 a)) (name_number decls RouterName w.0.router (iface_router decls w.0 b))
-            (sym (ap (λ x. x.router) v.2) ∙ routers ∙ ap (λ x. x.router) w.2) in
+        (name_number decls RouterName v.0.router (iface_router decls v.0 a)) (name_number decls RouterName w.0.router (iface_router decls w.0 b))
+        (sym (ap (λ x. x.router) v.2) ∙ routers ∙ ap (λ x. x.router) w.2) in
         let net = one_number (names_of decls NetworkName) (mention NetworkName v.0.net) (mention NetworkName w.0.net)
-            (name_number decls NetworkName v.0.net (iface_net decls faultless v.0 a)) (name_number decls NetworkName w.0.net (iface_net decls faultless w.0 b))
-            (sym (ap (λ x. x.net) v.2) ∙ nets ∙ ap (λ x. x.net) w.2) in
+        (name_number decls NetworkName v.0.net (iface_net decls faultless v.0 a)) (name_number decls NetworkName w.0.net (iface_net decls faultless w.0 b))
+        (sym (ap (λ x. x.net) v.2) ∙ nets ∙ ap (λ x. x.net) w.2) in
         let same = and_from (bytes_eq v.0.router.text w.0.router.text) (bytes_eq v.0.net.text w.0.net.text) (bytes_alike v.0.router.text w.0.router.text router) (bytes_alike v.0.net.text w.0.net.text net) in
         apart_places (λ a b. same_name (iface_mention a) (iface_mention b)) (λ a b t. name_back (iface_mention a) (iface_mention b) t) ifs v.0 apart_ifaces i j (slice_get_within ifs i v.0 v.1) (slice_get_within ifs j w.0 w.1)
         (subst (λ x. same_name (iface_mention x) (iface_mention (get_or ifs j v.0)) ≡ true) (sym (get_or_from_slice_get ifs i v.0 v.0 v.1))

@@ -1,19 +1,18 @@
 -- No limit is passed.
-use Rattle.std.proofs.Common.{◌≡◌, ◌⊎◌, inl, inr, ⊎_elim, refl, sym, ap, subst, ◌∙◌, ℕ, zero, suc, ◌+◌, ◌<◌, ◌≤◌, ◌^◌, Bool, true, false, not, ◌&&◌, ◌||◌, cond, List, [], ◌∷◌, ◌++◌, length, map, get_or, Option, Some, None, is_some, nat_lt, arith, length-append}
+use Rattle.std.proofs.Common.{◌≡◌, refl, sym, ap, subst, ◌∙◌, ℕ, suc, ◌+◌, ◌<◌, ◌≤◌, ◌^◌, Bool, true, false, not, ◌||◌, cond, List, [], ◌∷◌, length, map, get_or, Option, Some, None, is_some, nat_lt, arith, length-append}
 use Rattle.std.specs.Prelude.{IsTrue, flat_map, filter, slice_get}
 use Rattle.std.specs.List.{list_any, list_all, range_with_len}
-use Rattle.std.proofs.Math.ListN.{length-map}
 use Rattle.std.proofs.lemmas.Bool.{or_parts, ltb-false, le-leb}
 use Rattle.std.proofs.lemmas.Option.{none-some}
 use Rattle.std.proofs.lemmas.List.Filters.{length-filter_both}
 use Rattle.spoc_base.specs.declared.fault.LimitWord.{LimitWord}
 use Rattle.spoc_base.specs.declared.fault.LimitWord.TheVariants.{Networks, Routers, Interfaces, Hosts, Services, Names, Nesting}
 use Rattle.topology.specs.Sound.{IsLimited, is_short}
-use Rattle.policy_model.specs.Lists.{numbers_below, once_each}
-use Rattle.policy_model.specs.Policy.{Policy, Router, Iface, no_router, is_managed, managed_routers}
-use Rattle.spoc_ast.specs.Written.{Lexeme, RoutPartText, DeclText, NetworkDecl, RouterDecl, GroupDecl, AreaDecl, AggregateDecl, ProtocolDecl, ProtocolGroupDecl, RestrictionDecl, ServiceDecl}
+use Rattle.policy_model.specs.Lists.{once_each}
+use Rattle.policy_model.specs.Policy.{Router, Iface, no_router, is_managed, managed_routers}
+use Rattle.spoc_ast.specs.Written.{Lexeme, DeclText, RouterDecl}
 use Rattle.policy_decls.specs.Names.{NameKind, NetworkName, HostName, TagName, RouterName, IfaceName, GroupName, AreaName, AggregateName, RestrictionName, ServiceName, Mention, declared_names}
-use Rattle.policy_decls.specs.Lookup.{IfaceText, declared_ifaces, iface_hardware, is_managed_router}
+use Rattle.policy_decls.specs.Lookup.{declared_ifaces, iface_hardware, is_managed_router}
 use Rattle.policy_decls.specs.Nesting.{nesting_names, nests}
 use Rattle.policy_decls.specs.Limits.{count_of, declares_managed, managed_count, has_long_name, nest_too_deep, first_word, limit_passed}
 use Rattle.policy_decls.specs.Said.{same_text, names_of, tag_names, device_in, adds_of, text_or_none, iface_said, policy_said}
@@ -25,7 +24,7 @@ use Rattle.decl_laws.proofs.Rows.{no_rows}
 use Rattle.decl_laws.proofs.Places.{all_from, get_in, none_passes, filter_flat_map}
 use Rattle.decl_laws.proofs.Taken.{IsFaultless, each_faultless}
 use Rattle.decl_laws.proofs.NamesByKind.{is_of, texts, as_many, net_names, host_names, router_names, restriction_names, group_names, area_names, aggregate_names, service_names, tag_texts}
-use Rattle.decl_laws.proofs.Numbers.{tag_kind, iface_count}
+use Rattle.decl_laws.proofs.NameNumbers.{tag_kind, iface_count}
 use Rattle.decl_laws.proofs.Stands.{device_there}
 use Rattle.decl_laws.proofs.Chains.{no_long_chain}
 
@@ -105,10 +104,11 @@ filter_places test f a (x ∷ xs) z each =
 
 module _ (decls : List DeclText) where
   one_managed : (d : DeclText) → length (filter (λ (r : Router). is_some r.device) (adds_of decls d).routers) ≡ cond (declares_managed d) 1 0
-  one_managed (RouterDecl name desc parts) = ap (λ b. length (cond b (own ∷ []) [])) (device_there decls parts) ∙ by (is_managed_router parts)
+  one_managed (RouterDecl name desc parts) = ap (λ b. length (cond b (own ∷ []) [])) (device_there parts) ∙ by (is_managed_router parts)
     where
       own : Router
       own = record { name = name.text; device = device_in parts }
+
       by : (b : Bool) → length (cond b (own ∷ []) []) ≡ cond b 1 0
       by true = refl
       by false = refl

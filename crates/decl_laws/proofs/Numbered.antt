@@ -1,14 +1,13 @@
 -- Each number in the policy is that of a thing that is declared.
-use Rattle.std.proofs.Common.{◌≡◌, ◌⊎◌, inl, inr, refl, sym, ap, subst, ◌∙◌, ℕ, zero, suc, ◌<◌, Bool, true, false, cond, List, [], ◌∷◌, length, map, Option, Some, None, nat_lt, IfSome, not, ◌||◌, arith}
-use Rattle.std.specs.Prelude.{IsTrue, flat_map, slice_get, option_map, ◌==◌}
-use Rattle.std.specs.List.{list_all}
+use Rattle.std.proofs.Common.{◌≡◌, inl, inr, refl, sym, ap, subst, ℕ, ◌<◌, true, List, [], ◌∷◌, length, map, Option, Some, None, nat_lt, IfSome, not, arith}
+use Rattle.std.specs.Prelude.{IsTrue, flat_map, slice_get, option_map}
 use Rattle.std.proofs.lemmas.Bool.{lt-ltb, or_parts, not-false, eqb-true}
 use Rattle.topology.specs.Sound.{IsNumbered, are_below}
-use Rattle.policy_model.specs.Policy.{Net, Host, Iface, Restriction, Area, Aggregate, no_net, no_host, no_iface, no_area, no_aggregate, net_of, host_of, iface_of, area_of, aggregate_of}
-use Rattle.spoc_ast.specs.Written.{Lexeme, PortText, NetPartText, NetIp, NetHost, NetNat, NetIdle, AreaPartText, AnyPartText, DeclText, NetworkDecl, RouterDecl, GroupDecl, AreaDecl, AggregateDecl, ProtocolDecl, ProtocolGroupDecl, RestrictionDecl, ServiceDecl}
-use Rattle.policy_decls.specs.Names.{NetworkName, HostName, RouterName, mention}
+use Rattle.policy_model.specs.Policy.{Net, Host, Iface, Restriction, Area, Aggregate, no_net, no_host, no_iface, no_area, no_aggregate}
+use Rattle.spoc_ast.specs.Written.{Lexeme, NetPartText, NetIp, NetHost, NetNat, NetIdle, AnyPartText, DeclText, NetworkDecl, AreaDecl, AggregateDecl, RestrictionDecl}
+use Rattle.policy_decls.specs.Names.{NetworkName, mention}
 use Rattle.policy_decls.specs.Lookup.{declared_ifaces, iface_binds}
-use Rattle.policy_decls.specs.Shapes.{anchors_in, borders_in, links_in, ips_in_any_part, has_one, has_two, is_bad_aggregate, is_unaligned, shape_in}
+use Rattle.policy_decls.specs.Shapes.{anchors_in, borders_in, links_in, ips_in_any_part, has_one, has_two, is_bad_aggregate}
 use Rattle.policy_decls.specs.Said.{number_of_name, number_of_tag, number_of_port, nats_said, hosts_said, adds_of, iface_said, or_zero, policy_said}
 use Rattle.policy_decls.specs.Faults.{fault_of}
 use Rattle.policy_decls.specs.Formed.{are_formed}
@@ -17,8 +16,8 @@ use Rattle.list_laws.proofs.Tables.{from_flat_map}
 use Rattle.decl_laws.proofs.Rows.{no_rows}
 use Rattle.decl_laws.proofs.Places.{at_each, all_from, get_in}
 use Rattle.decl_laws.proofs.Taken.{IsFaultless, each_faultless, row_clear}
-use Rattle.decl_laws.proofs.Numbers.{net_below, router_below, port_below, tag_below}
-use Rattle.decl_laws.proofs.Declared.{IsDeclared, IsIfaceOf, own_name, own_tag, iface_of_decl, iface_router, iface_net, iface_tag, anchor_known, border_known, link_known, member_known}
+use Rattle.decl_laws.proofs.NameNumbers.{net_below, router_below, port_below, tag_below}
+use Rattle.decl_laws.proofs.Declared.{own_name, own_tag, iface_of_decl, iface_router, iface_net, iface_tag, anchor_known, border_known, link_known, member_known}
 
 -- what a list of one has
 pub one_there : {A : Type 0} (xs : List A) → has_one xs ≡ true → (x : A) × (slice_get xs 0 ≡ Some x)

@@ -1,8 +1,8 @@
 -- Items of lists by their places, lists in which no two items are the same, and what no item passes.
-use Rattle.std.proofs.Common.{◌≡◌, ◌⊎◌, inl, inr, ⊎_elim, refl, sym, ap, subst, ◌∙◌, ℕ, zero, suc, ◌+◌, ◌<◌, Bool, true, false, not, ◌&&◌, ◌||◌, cond, List, [], ◌∷◌, ◌++◌, length, map, get_or, arith, Option, Some, None, position, nat_lt}
+use Rattle.std.proofs.Common.{◌≡◌, inl, inr, refl, sym, ap, ◌∙◌, ℕ, zero, suc, ◌+◌, ◌<◌, Bool, true, false, not, ◌||◌, cond, List, [], ◌∷◌, ◌++◌, length, map, get_or, arith, Some, None, position, nat_lt}
 use Rattle.std.specs.Prelude.{filter, flat_map, slice_get}
 use Rattle.std.specs.List.{list_any, list_all, position_or_len, range_with_len}
-use Rattle.std.proofs.lemmas.Bool.{false≢true, or_parts, and_from, cases_order, ltb-true}
+use Rattle.std.proofs.lemmas.Bool.{false≢true, or_parts, and_from}
 use Rattle.std.proofs.lemmas.Bool.Decides.{nat_tests}
 use Rattle.std.proofs.lemmas.Option.{none-some}
 use Rattle.std.proofs.lemmas.List.{map-append}
@@ -10,8 +10,7 @@ use Rattle.std.proofs.lemmas.List.Quantifiers.{position-Some}
 use Rattle.policy_model.specs.Lists.{numbers_below, once_each}
 use Rattle.policy_decls.specs.Names.{first_below}
 use Rattle.policy_model.proofs.AllWalks.{IsIn, in_filter, in_numbers, in_map}
-use Rattle.list_laws.proofs.Members.{from_filter, some_of, filter-append}
-use Rattle.list_laws.proofs.Tables.{from_flat_map}
+use Rattle.list_laws.proofs.Members.{from_filter, filter-append}
 
 -- ---- places
 
@@ -115,6 +114,7 @@ once_apart same back (x ∷ xs) =
     positive : (b : Bool) → not b ≡ true → b ≡ false
     positive true e = sym e
     positive false e = refl
+
     left_out : (y : _) → IsIn y (filter (λ y. not (same x y)) (once_each same xs)) → same x y ≡ false
     left_out y g = positive (same x y) (from_filter (λ y. not (same x y)) y (once_each same xs) g).1
 

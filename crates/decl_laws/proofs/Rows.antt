@@ -1,8 +1,7 @@
 -- What is absent where declarations have no fault.
-use Rattle.std.proofs.Common.{◌≡◌, refl, sym, ap, ◌∙◌, List, [], ◌∷◌, Option, Some, None, Bool, true, false, ℕ, length, is_some, cond}
-use Rattle.std.specs.Prelude.{option_map, IsTrue}
+use Rattle.std.proofs.Common.{◌≡◌, refl, sym, List, [], ◌∷◌, Option, Some, None}
+use Rattle.std.specs.Prelude.{option_map}
 use Rattle.std.proofs.lemmas.Option.{none-some}
-use Rattle.spoc_base.specs.declared.place.Named.{Named}
 use Rattle.spoc_base.specs.declared.fault.Fault.{Fault}
 use Rattle.spoc_base.specs.declared.fault.Fault.TheVariants.{Twice, Unknown, Circle, Shape, Limit}
 use Rattle.spoc_ast.specs.Written.{DeclText}

@@ -1,18 +1,18 @@
 -- What sets name is there.
-use Rattle.std.proofs.Common.{◌≡◌, ◌⊎◌, inl, inr, refl, sym, ap, subst, ◌∙◌, ℕ, ◌<◌, Bool, true, false, not, ◌&&◌, ◌||◌, List, [], ◌∷◌, ◌++◌, length, map, Option, Some, None, is_some, nat_lt}
+use Rattle.std.proofs.Common.{◌≡◌, ◌⊎◌, inl, inr, refl, sym, ap, subst, ◌∙◌, Bool, true, false, not, ◌&&◌, ◌||◌, List, [], ◌∷◌, ◌++◌, length, map, Some, None, is_some, nat_lt}
 use Rattle.std.specs.Prelude.{IsTrue, flat_map, slice_get, option_and_then}
 use Rattle.std.specs.List.{list_any, list_all}
 use Rattle.std.proofs.lemmas.Bool.{false≢true, and_parts, and_from, or_parts, or_left, or_right, lt-ltb, not-false}
 use Rattle.topology.specs.Sound.{HasSoundSets, is_sound_expr, is_sound_rule, is_sound_service, names_user}
 use Rattle.policy_model.specs.Lists.{is_nothing}
 use Rattle.policy_model.specs.Policy.{Group, Rule, Service, no_group, is_managed, router_at, iface_of}
-use Rattle.spoc_ast.specs.Written.{Lexeme, PortText, SetText, NoParts, NetworkNamed, HostNamed, PortNamed, GroupNamed, AggregateNamed, AreaNamed, UserNamed, NetworksIn, HostsIn, ZonesIn, Joining, Keeping, Leaving, IfPartText, IfIp, IfHardware, IfBindNat, IfIdle, RuleText, DeclText, NetworkDecl, RouterDecl, GroupDecl, AreaDecl, AggregateDecl, ProtocolDecl, ProtocolGroupDecl, RestrictionDecl, ServiceDecl}
+use Rattle.spoc_ast.specs.Written.{Lexeme, PortText, SetText, NoParts, NetworkNamed, HostNamed, PortNamed, GroupNamed, AggregateNamed, AreaNamed, UserNamed, NetworksIn, HostsIn, ZonesIn, Joining, Keeping, Leaving, IfPartText, IfIp, IfHardware, IfBindNat, IfIdle, RuleText, DeclText, RouterDecl, GroupDecl, ServiceDecl}
 use Rattle.policy_decls.specs.Numbers.{address_of}
 use Rattle.policy_decls.specs.Names.{NetworkName, HostName, GroupName, AreaName, AggregateName, Mention, mention, mention_port, declared_names, same_name}
 use Rattle.policy_decls.specs.Uses.{uses_in_set, uses_in_prt, uses_in_rule}
 use Rattle.policy_decls.specs.Lookup.{IfaceText, declared_ifaces, addresses_in, iface_addresses, is_port}
-use Rattle.policy_decls.specs.Shapes.{ports_in, says_user, is_bare_port, sets_in_rule, sets_in_objects, lacks_user, name_bare_port, ask_unaligned, is_bad_prt, shape_in}
-use Rattle.policy_decls.specs.Said.{expr_in, expr_or_none, rule_in, number_of_name, number_of_port, adds_of, iface_said, policy_said}
+use Rattle.policy_decls.specs.Shapes.{ports_in, says_user, is_bare_port, sets_in_rule, lacks_user, name_bare_port, ask_unaligned, is_bad_prt}
+use Rattle.policy_decls.specs.Said.{expr_in, rule_in, number_of_port, adds_of, iface_said, policy_said}
 use Rattle.policy_decls.specs.Faults.{fault_of}
 use Rattle.policy_decls.specs.Formed.{is_formed_set, is_formed_iface, is_formed_router, is_formed_prt, is_formed_rule, asks_prefix, are_formed}
 use Rattle.policy_model.proofs.AllWalks.{IsIn, from_map, in_front, in_back, in_flat_map}
@@ -21,9 +21,9 @@ use Rattle.list_laws.proofs.Tables.{from_flat_map}
 use Rattle.decl_laws.proofs.Rows.{no_rows}
 use Rattle.decl_laws.proofs.Places.{at_each, all_from, none_passes, AreApart}
 use Rattle.decl_laws.proofs.Taken.{IsFaultless, each_faultless, apart_names, row_clear}
-use Rattle.decl_laws.proofs.Numbers.{net_below, host_below, group_below, area_below, aggregate_below, port_below}
-use Rattle.decl_laws.proofs.Declared.{IsDeclared, IsIfaceOf, iface_of_decl, known}
-use Rattle.decl_laws.proofs.Stands.{IsPortAt, port_at, managed_iface}
+use Rattle.decl_laws.proofs.NameNumbers.{net_below, host_below, group_below, area_below, aggregate_below, port_below}
+use Rattle.decl_laws.proofs.Declared.{IsDeclared, iface_of_decl}
+use Rattle.decl_laws.proofs.Stands.{port_at, managed_iface}
 
 pub user_named : (decls : List DeclText) (e : SetText) → names_user (expr_in decls e) ≡ says_user e
 user_named decls NoParts = refl
@@ -61,6 +61,7 @@ module _ (decls : List DeclText) (apart : AreApart same_name (declared_names dec
     where
       each : (w : Lexeme) → ((part : IfPartText) × IsIn part i.parts × IsIn w (addresses_in part)) → is_some (address_of w.text) ≡ true
       each w k = address_formed w k.0 (each_in is_formed_iface i.parts (formed_parts i h) k.0 k.1) k.2
+
       by : (ws : List Lexeme) → ((w : Lexeme) → IsIn w ws → is_some (address_of w.text) ≡ true) → is_nothing ws ≡ false → is_some (option_and_then (λ w. address_of w.text) (slice_get ws 0)) ≡ true
       by [] each some = absurd (false≢true (sym some))
       by (w ∷ ws) each some = each w (inl refl)
@@ -138,12 +139,12 @@ module _ (decls : List DeclText) (apart : AreApart same_name (declared_names dec
       let src = uses_in_set rule.src in
       let rest = flat_map uses_in_prt rule.prts in
       let sources : is_sound_expr (policy_said decls) true false (expr_in decls rule.src) ≡ true =
-          sound_set true false rule.src b.0 (λ used h. uses used (in_front used (src ++ uses_in_set rule.dst) rest (in_front used src (uses_in_set rule.dst) h))) (λ port h. ports port (in_front port (ports_in rule.src) (ports_in rule.dst ++ []) h)) in
+      sound_set true false rule.src b.0 (λ used h. uses used (in_front used (src ++ uses_in_set rule.dst) rest (in_front used src (uses_in_set rule.dst) h))) (λ port h. ports port (in_front port (ports_in rule.src) (ports_in rule.dst ++ []) h)) in
       let destinations : is_sound_expr (policy_said decls) true false (expr_in decls rule.dst) ≡ true =
-          sound_set true false rule.dst b.1 (λ used h. uses used (in_front used (src ++ uses_in_set rule.dst) rest (in_back used src (uses_in_set rule.dst) h)))
-          (λ port h. ports port (in_back port (ports_in rule.src) (ports_in rule.dst ++ []) (in_front port (ports_in rule.dst) [] h))) in
+      sound_set true false rule.dst b.1 (λ used h. uses used (in_front used (src ++ uses_in_set rule.dst) rest (in_back used src (uses_in_set rule.dst) h)))
+      (λ port h. ports port (in_back port (ports_in rule.src) (ports_in rule.dst ++ []) (in_front port (ports_in rule.dst) [] h))) in
       let named : (names_user (expr_in decls rule.src) || names_user (expr_in decls rule.dst)) ≡ true =
-          ap (λ c. c || names_user (expr_in decls rule.dst)) (user_named decls rule.src) ∙ ap (λ c. says_user rule.src || c) (user_named decls rule.dst) ∙ not-false (says_user rule.src || says_user rule.dst) user in
+      ap (λ c. c || names_user (expr_in decls rule.dst)) (user_named decls rule.src) ∙ ap (λ c. says_user rule.src || c) (user_named decls rule.dst) ∙ not-false (says_user rule.src || says_user rule.dst) user in
       and_from (is_sound_expr (policy_said decls) true false (expr_in decls rule.src) && is_sound_expr (policy_said decls) true false (expr_in decls rule.dst))
       (names_user (expr_in decls rule.src) || names_user (expr_in decls rule.dst))
       (and_from (is_sound_expr (policy_said decls) true false (expr_in decls rule.src)) (is_sound_expr (policy_said decls) true false (expr_in decls rule.dst)) sources destinations) named
@@ -159,11 +160,11 @@ module _ (decls : List DeclText) (apart : AreApart same_name (declared_names dec
       let bare = none_passes (is_bare_port decls) (flat_map ports_in sets) clear.1 in
       let formed = and_parts (is_formed_set false false user) (list_all is_formed_rule rules) own.formed in
       let each : (r : Rule) → IsIn r (map (rule_in decls) rules) → is_sound_rule (policy_said decls) r ≡ true = λ r h.
-          let w = from_map (rule_in decls) r rules h in
-          ap (is_sound_rule (policy_said decls)) w.2
-          ∙ sound_rule w.0 (each_in is_formed_rule rules formed.1 w.0 w.1) (λ used k. own.known used (in_back used (uses_in_set user) (flat_map uses_in_rule rules) (in_flat_map uses_in_rule w.0 used rules w.1 k)))
-          (λ port k. bare port (in_back port (ports_in user) (flat_map ports_in (flat_map sets_in_rule rules)) (in_sets rules w.0 port w.1 k)))
-          (none_passes lacks_user rules clear.0 w.0 w.1) in
+      let w = from_map (rule_in decls) r rules h in
+      ap (is_sound_rule (policy_said decls)) w.2
+      ∙ sound_rule w.0 (each_in is_formed_rule rules formed.1 w.0 w.1) (λ used k. own.known used (in_back used (uses_in_set user) (flat_map uses_in_rule rules) (in_flat_map uses_in_rule w.0 used rules w.1 k)))
+      (λ port k. bare port (in_back port (ports_in user) (flat_map ports_in (flat_map sets_in_rule rules)) (in_sets rules w.0 port w.1 k)))
+      (none_passes lacks_user rules clear.0 w.0 w.1) in
       ap (is_sound_service (policy_said decls)) e
       ∙ and_from (is_sound_expr (policy_said decls) false false (expr_in decls user)) (list_all (is_sound_rule (policy_said decls)) (map (rule_in decls) rules))
       (sound_set false false user formed.0 (λ used h. own.known used (in_front used (uses_in_set user) (flat_map uses_in_rule rules) h))

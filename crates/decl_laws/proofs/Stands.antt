@@ -1,21 +1,21 @@
 -- What stands in the policy at the number of a name.
-use Rattle.std.proofs.Common.{◌≡◌, ◌⊎◌, inl, inr, refl, sym, ap, subst, ◌∙◌, ℕ, zero, suc, ◌<◌, Bool, true, false, ◌&&◌, cond, List, [], ◌∷◌, ◌++◌, length, map, get_or, Option, Some, None, is_some, arith}
-use Rattle.std.specs.Prelude.{flat_map, slice_get}
+use Rattle.std.proofs.Common.{◌≡◌, inl, inr, refl, sym, ap, subst, ◌∙◌, ℕ, ◌<◌, Bool, true, false, cond, List, [], ◌∷◌, ◌++◌, length, map, get_or, Some, None, is_some}
+use Rattle.std.specs.Prelude.{flat_map}
 use Rattle.std.specs.Str.{bytes_eq}
 use Rattle.std.proofs.lemmas.Bool.{false≢true, and_from}
 use Rattle.std.proofs.lemmas.List.{get_or-map}
 use Rattle.std.proofs.lemmas.Option.{same_Some}
-use Rattle.policy_model.specs.Policy.{Router, Iface, no_router, no_iface, iface_of, router_of, is_managed}
-use Rattle.spoc_ast.specs.Written.{Lexeme, PortText, RoutPartText, DeclText, NetworkDecl, RouterDecl, GroupDecl, AreaDecl, AggregateDecl, ProtocolDecl, ProtocolGroupDecl, RestrictionDecl, ServiceDecl}
-use Rattle.policy_decls.specs.Names.{NameKind, RouterName, IfaceName, Mention, mention, mention_port, names_in, declared_names, same_name}
+use Rattle.policy_model.specs.Policy.{Router, no_router, no_iface, iface_of, router_of, is_managed}
+use Rattle.spoc_ast.specs.Written.{Lexeme, PortText, RoutPartText, DeclText, RouterDecl}
+use Rattle.policy_decls.specs.Names.{NameKind, RouterName, IfaceName, mention, mention_port, names_in, declared_names, same_name}
 use Rattle.policy_decls.specs.Lookup.{IfaceText, declared_ifaces, is_managed_router, is_port}
 use Rattle.policy_decls.specs.Said.{names_of, number_of_name, number_of_port, device_in, adds_of, iface_said, policy_said}
 use Rattle.policy_model.proofs.AllWalks.{IsIn, in_back, in_flat_map}
 use Rattle.list_laws.proofs.Tables.{from_flat_map}
 use Rattle.decl_laws.proofs.Places.{at_in, get_in, AreApart}
 use Rattle.decl_laws.proofs.NamesByKind.{texts, router_names, iface_mention, iface_names, as_many}
-use Rattle.decl_laws.proofs.Numbers.{bytes_alike, says_it, name_back, name_number, port_number, iface_count}
-use Rattle.decl_laws.proofs.Declared.{IsDeclared, IsIfaceOf, own_name, iface_of_decl, iface_router}
+use Rattle.decl_laws.proofs.NameNumbers.{bytes_alike, says_it, name_back, name_number, port_number, iface_count}
+use Rattle.decl_laws.proofs.Declared.{IsDeclared, own_name, iface_of_decl}
 use Rattle.decl_laws.proofs.Distinct.{mapped_at}
 
 -- ---- two declarations that give one name are one
@@ -38,6 +38,15 @@ module _ {A B : Type 0} (same : B → B → Bool) (back : (a b : B) → same a b
   one_source (z ∷ zs) a b x y h (inr g) (inl e) i j t =
       absurd (across (f z) (flat_map f zs) y x h (subst (λ w. IsIn y (f w)) e j) (in_flat_map f a x zs g i) t)
   one_source (z ∷ zs) a b x y h (inr g) (inr k) i j t = one_source zs a b x y (rest_apart (f z) (flat_map f zs) h) g k i j t
+
+-- ---- routers
+
+pub device_there : (parts : List RoutPartText) → is_some (device_in parts) ≡ is_managed_router parts
+device_there parts = by (is_managed_router parts) _
+  where
+    by : {A : Type 0} (b : Bool) (x : A) → is_some (cond b (Some x) None) ≡ b
+    by true x = refl
+    by false x = refl
 
 -- ---- what has a name
 
@@ -95,25 +104,16 @@ module _ (decls : List DeclText) where
             (bytes_alike w.0.router.text port.router.text (sym (names.owner refl ∙ ap (λ m. m.owner) here))) (bytes_alike w.0.net.text port.net.text (sym (names.text ∙ ap (λ m. m.text) here)));
       }
 
-  -- ---- routers
-
   abbrev parts_of : DeclText → List RoutPartText
   parts_of (RouterDecl name desc parts) = parts
   parts_of _ = []
-
-  pub device_there : (parts : List RoutPartText) → is_some (device_in parts) ≡ is_managed_router parts
-  device_there parts = by (is_managed_router parts) _
-    where
-      by : {A : Type 0} (b : Bool) (x : A) → is_some (cond b (Some x) None) ≡ b
-      by true x = refl
-      by false x = refl
 
   module _ (apart : AreApart same_name (declared_names decls)) where
     from_router : (name : Lexeme) (desc : _) (parts : List RoutPartText) → IsIn (RouterDecl name desc parts) decls → (x : Router) (d : DeclText) → IsIn d decls → IsIn x (adds_of decls d).routers → x.name ≡ name.text →
         is_some x.device ≡ is_managed_router parts
     from_router name desc parts g x (RouterDecl own notes others) k (inl e) same =
         let one = one_source same_name name_back names_in decls (RouterDecl own notes others) (RouterDecl name desc parts) (mention RouterName own) (mention RouterName name) apart k g (inl refl) (inl refl)
-            (bytes_alike own.text name.text (sym (ap (λ y. y.name) e) ∙ same)) in
+        (bytes_alike own.text name.text (sym (ap (λ y. y.name) e) ∙ same)) in
         ap (λ y. is_some y.device) e ∙ device_there others ∙ ap (λ d. is_managed_router (parts_of d)) one
     from_router name desc parts g x (RouterDecl own notes others) k (inr h) same = absurd h
     from_router name desc parts g x _ k h same = absurd h

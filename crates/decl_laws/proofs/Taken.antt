@@ -1,7 +1,7 @@
 -- What is true of each declaration where there is no fault: its names are declared, it has no bad shape, and no name is declared twice.
-use Rattle.std.proofs.Common.{◌≡◌, ◌⊎◌, inl, inr, ⊎_elim, refl, sym, ap, subst, ◌∙◌, ℕ, zero, suc, ◌+◌, ◌<◌, Bool, true, false, not, ◌&&◌, ◌||◌, cond, List, [], ◌∷◌, ◌++◌, length, take, map, get_or, arith, Option, Some, None, is_some}
+use Rattle.std.proofs.Common.{◌≡◌, refl, sym, ap, ◌∙◌, ℕ, zero, suc, ◌<◌, Bool, true, false, List, [], ◌∷◌, length, take, arith, Option, Some, None, is_some}
 use Rattle.std.specs.Prelude.{filter, slice_get, option_map, option_and_then}
-use Rattle.std.specs.List.{list_any, list_all}
+use Rattle.std.specs.List.{list_any}
 use Rattle.std.proofs.lemmas.Bool.{false≢true, or_parts, not-false}
 use Rattle.std.proofs.lemmas.Option.{none-some, slice_get_within}
 use Rattle.spoc_base.specs.declared.place.Named.{Named}
@@ -10,12 +10,12 @@ use Rattle.policy_decls.specs.Names.{Mention, names_in, declared_names, first_be
 use Rattle.policy_decls.specs.Uses.{uses_in, used_names, names_it, is_unknown}
 use Rattle.policy_decls.specs.Lookup.{IfaceText, declared_ifaces}
 use Rattle.policy_decls.specs.Shapes.{shape_in, shape_at, first_true}
-use Rattle.policy_decls.specs.Faults.{name_twice, name_unknown, name_of_decl, first_shape, fault_of}
+use Rattle.policy_decls.specs.Faults.{name_twice, name_unknown, name_of_decl, first_shape}
 use Rattle.policy_decls.specs.Formed.{is_formed, are_formed}
 use Rattle.policy_model.proofs.AllWalks.{IsIn, in_flat_map}
 use Rattle.list_laws.proofs.Members.{each_in}
 use Rattle.decl_laws.proofs.Rows.{HasNoFault}
-use Rattle.decl_laws.proofs.Places.{place_get, none_below, first_is, none_passes, none_kept, AreApart}
+use Rattle.decl_laws.proofs.Places.{place_get, none_below, first_is, none_kept, AreApart}
 
 -- the interfaces that stand before a declaration
 pub record IsFaultless (decls : List DeclText) (d : DeclText) : Type 0 where
@@ -103,9 +103,10 @@ no_again names (Some k) e none =
 -- a list in which no item is the same as one before it
 apart_from_fronts : (names : List Mention) → ((k : ℕ) (x : Mention) → slice_get names k ≡ Some x → list_any (same_name x) (take k names) ≡ false) → AreApart same_name names
 apart_from_fronts [] h = tt
-apart_from_fronts (x ∷ xs) h =
-    ( (λ y g. let w = place_get y xs g in (or_parts (same_name y x) (list_any (same_name y) (take w.0 xs)) (h (suc w.0) y w.2)).0)
-    , apart_from_fronts xs (λ k y e. (or_parts (same_name y x) (list_any (same_name y) (take k xs)) (h (suc k) y e)).1) )
+apart_from_fronts (x ∷ xs) h = (
+  (λ y g. let w = place_get y xs g in (or_parts (same_name y x) (list_any (same_name y) (take w.0 xs)) (h (suc w.0) y w.2)).0),
+  apart_from_fronts xs (λ k y e. (or_parts (same_name y x) (list_any (same_name y) (take k xs)) (h (suc k) y e)).1),
+)
 
 pub apart_names : (decls : List DeclText) → name_twice decls ≡ None → AreApart same_name (declared_names decls)
 apart_names decls none =

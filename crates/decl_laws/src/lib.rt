@@ -3,4 +3,7 @@
 
 mod named;
 
-pub use named::{policies_said_are_limited, policies_said_are_named, policies_said_are_numbered, sets_said_are_sound};
+pub use named::{
+    policies_said_are_limited, policies_said_are_named, policies_said_are_numbered,
+    sets_said_are_sound,
+};

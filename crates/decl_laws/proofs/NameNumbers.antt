@@ -1,9 +1,9 @@
 -- The numbers of names that are declared.
-use Rattle.std.proofs.Common.{◌≡◌, ◌⊎◌, inl, inr, ⊎_elim, refl, sym, ap, subst, ◌∙◌, ℕ, ◌<◌, Bool, true, false, not, ◌&&◌, ◌||◌, cond, eqb, List, [], ◌∷◌, ◌++◌, length, map, get_or, arith, Option, Some, None, position}
-use Rattle.std.specs.Prelude.{filter, flat_map}
+use Rattle.std.proofs.Common.{◌≡◌, inl, inr, ⊎_elim, refl, sym, ap, subst, ◌∙◌, ℕ, ◌<◌, Bool, true, false, not, ◌&&◌, ◌||◌, eqb, List, [], ◌∷◌, length, get_or, arith}
+use Rattle.std.specs.Prelude.{filter}
 use Rattle.std.specs.Str.{bytes_eq}
 use Rattle.std.specs.List.{list_any}
-use Rattle.std.proofs.lemmas.Bool.{false≢true, and_parts, and_from, or_left, eqb-true, cases_Bool, not_from_false}
+use Rattle.std.proofs.lemmas.Bool.{false≢true, and_parts, and_from, cases_Bool, not_from_false}
 use Rattle.std.proofs.lemmas.Bool.Decides.{nat_tests}
 use Rattle.std.proofs.lemmas.Slice.Eq.{bytes_eq-Decides}
 use Rattle.std.proofs.Math.ListN.{length-map}
@@ -15,7 +15,7 @@ use Rattle.policy_decls.specs.Said.{same_text, names_of, tag_names, or_zero, num
 use Rattle.policy_decls.specs.Lookup.{declared_ifaces}
 use Rattle.policy_model.proofs.AllWalks.{IsIn, in_filter}
 use Rattle.list_laws.proofs.Members.{some_in, some_of, from_filter}
-use Rattle.decl_laws.proofs.Places.{at_in, position_there, AreApart, apart_places, filter_apart, once_apart}
+use Rattle.decl_laws.proofs.Places.{position_there}
 use Rattle.decl_laws.proofs.NamesByKind.{is_of, net_names, host_names, router_names, group_names, area_names, aggregate_names, iface_mention, iface_names, as_many}
 
 -- ---- tests of names
