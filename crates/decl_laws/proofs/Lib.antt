@@ -10,3 +10,14 @@ pub mod Numbers
 pub mod Equipped
 pub mod Restricted
 pub mod WellFormed
+pub mod Places
+pub mod Taken
+pub mod NamesByKind
+pub mod NameNumbers
+pub mod Declared
+pub mod Numbered
+pub mod Distinct
+pub mod Stands
+pub mod SoundSets
+pub mod Chains
+pub mod Limited
