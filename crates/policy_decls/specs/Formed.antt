@@ -2,7 +2,7 @@
 use Rattle.std.specs.Prelude.{Bool, true, false, not, ◌&&◌, List, Option, Some, None, is_some}
 use Rattle.std.specs.List.{list_all}
 use Rattle.policy_model.specs.Lists.{is_nothing}
-use Rattle.spoc_ast.specs.Written.{Lexeme, SetText, NoParts, NetworkNamed, HostNamed, PortNamed, GroupNamed, AggregateNamed, AreaNamed, UserNamed, NetworksIn, HostsIn, ZonesIn, Joining, Keeping, Leaving, HostPartText, HostIp, HostRange, HostIdle, NatPartText, NatIp, NetPartText, NetIp, NetHost, NetNat, NetIdle, IfPartText, IfIp, IfHardware, IfBindNat, IfIdle, RoutPartText, RoutManaged, RoutModel, RoutRouting, RoutIface, RoutIdle, AnyPartText, AnyLink, AnyIp, AnyIdle, SimpleText, SimpleIp, SimpleTcp, SimpleUdp, SimpleIcmp, SimpleProto, PrtText, PrtSimple, PrtProtocol, PrtGroup, RuleText, DeclText, NetworkDecl, RouterDecl, GroupDecl, AreaDecl, AggregateDecl, ProtocolDecl, ProtocolGroupDecl, RestrictionDecl, ServiceDecl}
+use Rattle.spoc_ast.specs.Written.{Lexeme, SetText, NoParts, NetworkNamed, HostNamed, PortNamed, GroupNamed, AggregateNamed, AreaNamed, UserNamed, NetworksIn, HostsIn, ZonesIn, Joining, Keeping, Leaving, HostPartText, HostIp, HostRange, HostIdle, NatPartText, NatIp, NetPartText, NetIp, NetHost, NetNat, NetIdle, IfPartText, IfIp, IfHardware, IfBindNat, IfIdle, RoutPartText, RoutManaged, RoutModel, RoutRouting, RoutIface, RoutIdle, AreaPartText, AreaAnchor, AreaBorder, AreaIdle, AnyPartText, AnyLink, AnyIp, AnyIdle, SimpleText, SimpleIp, SimpleTcp, SimpleUdp, SimpleIcmp, SimpleProto, PrtText, PrtSimple, PrtProtocol, PrtGroup, RuleText, DeclText, NetworkDecl, RouterDecl, GroupDecl, AreaDecl, AggregateDecl, ProtocolDecl, ProtocolGroupDecl, RestrictionDecl, ServiceDecl}
 use Rattle.policy_decls.specs.Numbers.{address_of, prefix_of, range_of, port_pair_of, icmp_of, number_of, spread}
 
 -- the word is a prefix
@@ -61,6 +61,12 @@ is_formed_router (RoutRouting routing) = true
 is_formed_router (RoutIface name parts) = list_all is_formed_iface parts
 is_formed_router (RoutIdle idle) = true
 
+-- a border part names an interface at least
+abbrev pub is_formed_area : AreaPartText → Bool
+is_formed_area (AreaAnchor name) = true
+is_formed_area (AreaBorder ports) = not (is_nothing ports)
+is_formed_area (AreaIdle idle) = true
+
 abbrev pub is_formed_any : AnyPartText → Bool
 is_formed_any (AnyLink name) = true
 is_formed_any (AnyIp prefix) = says_prefix prefix
@@ -85,12 +91,13 @@ abbrev pub is_formed_objects : Option SetText → Bool
 is_formed_objects None = true
 is_formed_objects (Some e) = is_formed_set false false e
 
--- Each word for an address, a prefix, a range, ports or a number is one; hardware isn't empty; the user and areas stand where they may.
+-- Each word for an address, a prefix, a range, ports or a number is one; hardware isn't empty; a border part isn't empty; the user and areas stand where
+-- they may.
 abbrev pub is_formed : DeclText → Bool
 is_formed (NetworkDecl name desc parts) = list_all is_formed_net parts
 is_formed (RouterDecl name desc parts) = list_all is_formed_router parts
 is_formed (GroupDecl name desc objects) = is_formed_objects objects
-is_formed (AreaDecl name desc parts) = true
+is_formed (AreaDecl name desc parts) = list_all is_formed_area parts
 is_formed (AggregateDecl name desc parts) = list_all is_formed_any parts
 is_formed (ProtocolDecl name protocol notes) = is_formed_simple protocol
 is_formed (ProtocolGroupDecl name prts) = list_all is_formed_prt prts
