@@ -1,1 +1,5 @@
 mod Seeing
+mod Phrases
+mod Numbers
+mod WellFormed
+mod Written

@@ -3,4 +3,5 @@
 //! The functions here do nothing: each has a law as its contract.
 #![tactic(auto)]
 
+pub mod formed;
 pub mod trees;
