@@ -3,3 +3,4 @@ mod Phrases
 mod Numbers
 mod WellFormed
 mod Written
+pub mod Slicing

@@ -5,3 +5,4 @@
 
 pub mod formed;
 pub mod trees;
+pub mod words;
