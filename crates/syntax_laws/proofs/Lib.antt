@@ -1,6 +1,7 @@
-mod Seeing
-mod Phrases
-mod Numbers
-mod WellFormed
-mod Written
+pub mod Phrases
+pub mod Numbers
+pub mod Seeing
+pub mod WellFormed
+pub mod Written
 pub mod Slicing
+pub mod Whole

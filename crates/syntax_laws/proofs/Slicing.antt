@@ -284,8 +284,15 @@ module _ (file : ℕ) (text : List ℕ) where
   file_sliced depth decls = then_so (flat (IsSlice file text) words_in (decl_said file depth) decls) (many_gives (decl_sliced depth) decls)
 
   -- the tokens in the middle
+  middle : (toks before front behind : List Tok) → tokens_of text ≡ Ok toks → toks ≡ before ++ (front ++ behind) → AllByRecursion (IsPart text) front
+  middle toks before front behind h e =
+      let whole = subst (AllByRecursion (IsPart text)) e (recursion_from_All (IsPart text) toks (tokens_are_parts text toks h)) in
+      (halves (IsPart text) front behind (halves (IsPart text) before (front ++ behind) whole).1).0
+
   pub decl_in_text : (toks before front behind : List Tok) (depth : ℕ) (decl : DeclIn depth) → tokens_of text ≡ Ok toks → toks ≡ before ++ (front ++ behind) → SpellsDeclIn depth decl front → All (IsSlice file text) (words_in (decl_said file depth decl))
   decl_in_text toks before front behind depth decl h e p =
-      let whole = subst (AllByRecursion (IsPart text)) e (recursion_from_All (IsPart text) toks (tokens_are_parts text toks h)) in
-      let own = (halves (IsPart text) front behind (halves (IsPart text) before (front ++ behind) whole).1).0 in
-      All-from_recursion (IsSlice file text) (words_in (decl_said file depth decl)) ((decl_sliced depth decl).gives front own p)
+      All-from_recursion (IsSlice file text) (words_in (decl_said file depth decl)) ((decl_sliced depth decl).gives front (middle toks before front behind h e) p)
+
+  pub file_in_text : (toks before front behind : List Tok) (depth : ℕ) (decls : List (DeclIn depth)) → tokens_of text ≡ Ok toks → toks ≡ before ++ (front ++ behind) → SpellsFile depth decls front → All (IsSlice file text) (flat_map words_in (decls_said file depth decls))
+  file_in_text toks before front behind depth decls h e p =
+      All-from_recursion (IsSlice file text) (flat_map words_in (decls_said file depth decls)) ((file_sliced depth decls).gives front (middle toks before front behind h e) p)

@@ -3,6 +3,7 @@
 //! The functions here do nothing: each has a law as its contract.
 #![tactic(auto)]
 
+pub mod files;
 pub mod formed;
 pub mod trees;
 pub mod words;
