@@ -1,6 +1,6 @@
 -- What is written in a form says an address, a prefix, a range, ports or a number.
-use Rattle.std.proofs.Common.{◌≡◌, ◌⊎◌, inl, inr, ℕ, suc, ◌+◌, Bool, true, false, cond, not, ◌&&◌, ◌||◌, ◌==◌, List, [], ◌∷◌, ◌++◌, length, take, drop, map, Option, Some, None, refl, sym, ap, subst, ◌∙◌, arith, true≢false}
-use Rattle.std.specs.Prelude.{nat_le, nat_lt, position, option_map, option_and_then, is_some, get_or}
+use Rattle.std.proofs.Common.{◌≡◌, ◌⊎◌, inl, inr, ℕ, ◌+◌, Bool, true, false, cond, not, ◌&&◌, ◌||◌, ◌==◌, List, [], ◌∷◌, ◌++◌, length, take, drop, Option, Some, None, refl, sym, ap, subst, ◌∙◌, arith, true≢false}
+use Rattle.std.specs.Prelude.{nat_le, nat_lt, position, option_map, option_and_then, get_or}
 use Rattle.std.specs.List.{list_all, position_or_len}
 use Rattle.std.proofs.lemmas.List.Quantifiers.{position-Some}
 use Rattle.std.proofs.lemmas.Bool.{eqb-true}
@@ -9,7 +9,7 @@ use Rattle.grammar_laws.proofs.Found.{inside, one_behind}
 use Rattle.spoc_base.specs.Address.{Cidr}
 use Rattle.policy_model.specs.Lists.{is_nothing}
 use Rattle.policy_decls.specs.Numbers.{number_of, number_to, at_most, cut_by, address_from, address_of, prefix_of, both, range_of, ends_of, ports_of, two_of, port_pair_of, kind_of, icmp_of}
-use Rattle.spoc_parser.specs.Texts.{is_empty, is_digit, is_number, has_leading_zero, value_of, is_number_to, cut_at, both_pass, are_around, is_octet, is_address, is_prefix, is_range, is_span, is_ports, is_icmp}
+use Rattle.spoc_parser.specs.Texts.{is_empty, is_digit, is_number, value_of, is_number_to, cut_at, both_pass, are_around, is_octet, is_address, is_prefix, is_range, is_span, is_ports, is_icmp}
 
 -- the option has a value
 abbrev pub Has : {A : Type 0} → Option A → Type 0
@@ -37,7 +37,7 @@ number_has text h =
     let two = both_of (nat_le (length text) 5) _ one.1 in
     let three = both_of (list_all is_digit text) _ two.1 in
     ap (λ b. cond {A = Option ℕ} b (Some (value_of text)) None)
-      (passes_both _ _ (passes_both _ _ (passes_both _ _ (filled text one.0) two.0) three.0) three.1)
+    (passes_both _ _ (passes_both _ _ (passes_both _ _ (filled text one.0) two.0) three.0) three.1)
 
 number_to_has : (most : ℕ) (text : List ℕ) → is_number_to most text ≡ true → number_to most text ≡ Some (value_of text)
 number_to_has most text h =
@@ -68,13 +68,12 @@ pub address_has : (text : List ℕ) → is_address text ≡ true → Has (addres
 address_has text h =
     let one = around 46 is_octet (are_around 46 is_octet (are_around 46 is_octet is_octet)) text h in
     let two = around 46 is_octet (are_around 46 is_octet is_octet) one.0.1 one.3 in
-    let three = around 46 is_octet is_octet two.0.1 two.3 in
-    (
+    let three = around 46 is_octet is_octet two.0.1 two.3 in (
       address_from (value_of one.0.0) (value_of two.0.0) (value_of three.0.0) (value_of three.0.1),
       cut_then 46 text (λ first rest. cut_by 46 rest (λ second rest. cut_by 46 rest (λ third fourth. four first second third fourth))) one.0 one.1
-      ∙ cut_then 46 one.0.1 (λ second rest. cut_by 46 rest (λ third fourth. four one.0.0 second third fourth)) two.0 two.1
-      ∙ cut_then 46 two.0.1 (λ third fourth. four one.0.0 two.0.0 third fourth) three.0 three.1
-      ∙ λ i. option_and_then (λ a. option_and_then (λ b. option_and_then (λ c. option_map (λ d. address_from a b c d) (number_to_has 255 three.0.1 three.3 i)) (number_to_has 255 three.0.0 three.2 i)) (number_to_has 255 two.0.0 two.2 i)) (number_to_has 255 one.0.0 one.2 i)
+          ∙ cut_then 46 one.0.1 (λ second rest. cut_by 46 rest (λ third fourth. four one.0.0 second third fourth)) two.0 two.1
+          ∙ cut_then 46 two.0.1 (λ third fourth. four one.0.0 two.0.0 third fourth) three.0 three.1
+          ∙ λ i. option_and_then (λ a. option_and_then (λ b. option_and_then (λ c. option_map (λ d. address_from a b c d) (number_to_has 255 three.0.1 three.3 i)) (number_to_has 255 three.0.0 three.2 i)) (number_to_has 255 two.0.0 two.2 i)) (number_to_has 255 one.0.0 one.2 i),
     )
 
 abbrev cidr : ℕ → ℕ → Cidr
@@ -83,11 +82,10 @@ cidr net len = record { net = net; len = len }
 pub prefix_has : (text : List ℕ) → is_prefix text ≡ true → Has (prefix_of text)
 prefix_has text h =
     let cut = around 47 is_address (is_number_to 32) text h in
-    let net = address_has cut.0.0 cut.2 in
-    (
+    let net = address_has cut.0.0 cut.2 in (
       cidr net.0 (value_of cut.0.1),
       cut_then 47 text (λ first rest. option_and_then (λ a. option_map (cidr a) (number_to 32 rest)) (address_of first)) cut.0 cut.1
-      ∙ λ i. option_and_then (λ a. option_map (cidr a) (number_to_has 32 cut.0.1 cut.3 i)) (net.1 i)
+          ∙ λ i. option_and_then (λ a. option_map (cidr a) (number_to_has 32 cut.0.1 cut.3 i)) (net.1 i),
     )
 
 pub range_has : (text : List ℕ) → is_range text ≡ true → Has (range_of text)

@@ -1,12 +1,12 @@
 -- What follows from a phrase, where a fact holds of each of its tokens.
-use Rattle.std.proofs.Common.{◌≡◌, ◌⊎◌, inl, inr, ℕ, Bool, true, List, [], ◌∷◌, ◌++◌, Option, Some, None, subst, refl}
-use Rattle.std.specs.Prelude.{codes, IfSome}
+use Rattle.std.proofs.Common.{◌≡◌, ◌⊎◌, inl, inr, ℕ, Bool, List, [], ◌∷◌, ◌++◌, Option, Some, None, subst, refl}
+use Rattle.std.specs.Prelude.{IfSome}
 use Rattle.std.specs.List.{AllByRecursion}
 use Rattle.spoc_lexer.specs.Tokens.{Tok}
 use Rattle.spoc_parser.specs.declared.forms.Form.{Form}
 use Rattle.spoc_parser.specs.Trees.{Lexeme}
-use Rattle.spoc_parser.specs.Phrases.{Phrase, ◌then◌, ◌or◌, nothing, where_true, sign, key, a_word, perhaps, many, some, further, listed, listed_open, single, none_of}
-use Rattle.spoc_parser.specs.Grammar.{SpellsDesc, setting, body, body_with}
+use Rattle.spoc_parser.specs.Phrases.{Phrase, ◌then◌, ◌or◌, where_true, a_word, perhaps, many, some, further, listed, listed_open, none_of}
+use Rattle.spoc_parser.specs.Grammar.{setting, body, body_with}
 
 -- where P holds of each token, Q follows from the phrase
 pub record Gives (P : Tok → Type 0) (phrase : Phrase) (Q : Type 0) : Type 0 where

@@ -1,17 +1,11 @@
 -- Each tree of the code is seen as what its plain tree says.
-use Rattle.std.proofs.Common.{◌≡◌, ℕ, zero, suc, Bool, List, [], ◌∷◌, Option, Some, None, refl, ap, sym, ◌∙◌}
+use Rattle.std.proofs.Common.{◌≡◌, ℕ, zero, suc, List, [], ◌∷◌, Some, None, refl, ap, ◌∙◌}
 use Rattle.std.specs.Prelude.{map, option_map}
 use Rattle.std.specs.List.{AllZip}
-use Rattle.spoc_base.specs.declared.place.Span.{Span}
-use Rattle.spoc_ast.specs.declared.word.Word.{Word}
-use Rattle.spoc_ast.specs.declared.word.PortName.{PortName}
 use Rattle.spoc_ast.specs.declared.set.SetTree.{SetTree, out-SetTree}
-use Rattle.spoc_ast.specs.declared.set.InterTree.{InterTree, out-InterTree}
-use Rattle.spoc_ast.specs.declared.set.FurtherTree.{FurtherTree}
+use Rattle.spoc_ast.specs.declared.set.InterTree.{out-InterTree}
 use Rattle.spoc_ast.specs.declared.set.TermTree.{TermTree}
 use Rattle.spoc_ast.specs.declared.set.TermTree.TheVariants as term_tree
-use Rattle.spoc_ast.specs.declared.decl.Idle.{Idle}
-use Rattle.spoc_ast.specs.declared.decl.RuleTree.{RuleTree}
 use Rattle.spoc_ast.specs.declared.decl.Decl.{Decl}
 use Rattle.spoc_ast.specs.declared.decl.File.{File}
 use Rattle.spoc_ast.specs.declared.decl.HostPart.TheVariants as HostParts
@@ -24,14 +18,13 @@ use Rattle.spoc_ast.specs.declared.decl.AnyPart.TheVariants as AnyParts
 use Rattle.spoc_ast.specs.declared.decl.Simple.TheVariants as Simples
 use Rattle.spoc_ast.specs.declared.decl.Prt.TheVariants as Prts
 use Rattle.spoc_ast.specs.declared.decl.Decl.TheVariants as Decls
-use Rattle.spoc_ast.specs.Written.{Lexeme, PortText, SetText, NetworkNamed, HostNamed, PortNamed, GroupNamed, AggregateNamed, AreaNamed, UserNamed, NetworksIn, HostsIn, ZonesIn, IdleText, HostPartText, HostIp, HostRange, HostIdle, NatPartText, NatIp, NetPartText, NetIp, NetHost, NetNat, NetIdle, IfPartText, IfIp, IfHardware, IfBindNat, IfIdle, RoutPartText, RoutManaged, RoutModel, RoutRouting, RoutIface, RoutIdle, AreaPartText, AreaAnchor, AreaBorder, AreaIdle, AnyPartText, AnyLink, AnyIp, AnyIdle, SimpleText, SimpleIp, SimpleTcp, SimpleUdp, SimpleIcmp, SimpleProto, PrtText, PrtSimple, PrtProtocol, PrtGroup, RuleText, DeclText, NetworkDecl, RouterDecl, GroupDecl, AreaDecl, AggregateDecl, ProtocolDecl, ProtocolGroupDecl, RestrictionDecl, ServiceDecl}
+use Rattle.spoc_ast.specs.Written.{Lexeme, SetText, NetworkNamed, HostNamed, PortNamed, GroupNamed, AggregateNamed, AreaNamed, NetworksIn, HostsIn, ZonesIn, HostIp, HostRange, HostIdle, NatIp, NetIp, NetHost, NetNat, NetIdle, IfIp, IfHardware, IfBindNat, IfIdle, RoutManaged, RoutModel, RoutRouting, RoutIface, RoutIdle, AreaAnchor, AreaBorder, AreaIdle, AnyLink, AnyIp, AnyIdle, SimpleTcp, SimpleUdp, SimpleIcmp, SimpleProto, PrtSimple, PrtProtocol, PrtGroup, NetworkDecl, RouterDecl, GroupDecl, AreaDecl, AggregateDecl, ProtocolDecl, ProtocolGroupDecl, RestrictionDecl, ServiceDecl}
 use Rattle.spoc_ast.specs.Seen.{word_seen, port_seen, set_seen, inter_seen, term_seen, idle_seen, host_part_seen, nat_part_seen, net_part_seen, if_part_seen, rout_part_seen, area_part_seen, any_part_seen, simple_seen, prt_seen, rule_seen, decl_seen, file_seen, joined, narrowed, narrowing}
 use Rattle.spoc_ast.proofs.Rows.{sets, parts}
-use Rattle.spoc_parser.specs.Trees as trees
-use Rattle.spoc_parser.specs.Trees.{PortItem, IdleItem, TermOf, network, host, port, group, aggregate, area, user, nets, hosts, anys, InterOf, SetOf, SetIn, HostItem, host_ip, host_range, host_idle, NatItem, nat_ip, NetItem, net_ip, net_host, net_nat, net_idle, IfaceItem, iface_ip, iface_hardware, iface_bind_nat, iface_idle, RouterItem, router_managed, router_model, router_routing, router_iface, router_idle, AreaItem, area_anchor, area_border, area_idle, AnyItem, any_link, any_ip, any_idle, Proto, proto_ip, proto_tcp, proto_udp, proto_icmp, proto_number, ProtoItem, one_proto, a_protocol, a_protogroup, RuleOf, DeclOf, network_decl, router_decl, group_decl, area_decl, aggregate_decl, protocol_decl, protogroup_decl, restriction_decl, service_decl, DeclIn}
+use Rattle.spoc_parser.specs.Trees.{network, host, port, group, aggregate, area, user, nets, hosts, anys, host_ip, host_range, host_idle, nat_ip, net_ip, net_host, net_nat, net_idle, iface_ip, iface_hardware, iface_bind_nat, iface_idle, router_managed, router_model, router_routing, router_iface, router_idle, area_anchor, area_border, area_idle, any_link, any_ip, any_idle, proto_ip, proto_tcp, proto_udp, proto_icmp, proto_number, one_proto, a_protocol, a_protogroup, network_decl, router_decl, group_decl, area_decl, aggregate_decl, protocol_decl, protogroup_decl, restriction_decl, service_decl, DeclIn}
 use Rattle.spoc_parser.specs.Seen.{IsWord, IsPort, IsPerhaps, IsTermOf, IsFurther, IsInter, IsSet, IsSetIn}
 use Rattle.spoc_parser.specs.SeenParts.{IsIdle, IsHostItem, IsNatItem, IsNetItem, IsIfaceItem, IsRouterItem, IsAreaItem, IsAnyItem, IsProto, IsProtoItem, IsRule, IsDecl}
-use Rattle.syntax_laws.specs.Said.{lexeme_said, lexemes_said, port_said, term_said, further_said, inter_said, parts_said, set_said, idle_said, host_item_said, nat_item_said, net_item_said, iface_item_said, router_item_said, area_item_said, any_item_said, proto_said, proto_item_said, rule_said, decl_of_said, decl_said, decls_said}
+use Rattle.syntax_laws.specs.Said.{lexeme_said, port_said, term_said, further_said, inter_said, parts_said, set_said, idle_said, host_item_said, nat_item_said, net_item_said, iface_item_said, router_item_said, area_item_said, any_item_said, proto_said, proto_item_said, rule_said, decl_of_said, decl_said, decls_said}
 
 -- ---- values that are the same part by part
 

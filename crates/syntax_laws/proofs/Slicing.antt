@@ -1,5 +1,5 @@
 -- Each row of the grammar spells words that are parts of the text.
-use Rattle.std.proofs.Common.{◌≡◌, ℕ, zero, suc, ◌+◌, ◌-◌, ◌≤◌, Bool, true, false, List, [], ◌∷◌, ◌++◌, length, take, drop, map, Option, Some, None, Ok, refl, sym, ap, subst, ◌∙◌, arith, append_assoc, append-nil, length-append}
+use Rattle.std.proofs.Common.{◌≡◌, ℕ, zero, suc, ◌+◌, ◌-◌, Bool, true, false, List, [], ◌∷◌, ◌++◌, length, take, drop, map, Option, Some, None, Ok, refl, sym, ap, subst, ◌∙◌, arith, append_assoc, append-nil, length-append}
 use Rattle.std.proofs.Math.Seq.{take-append_seam, drop-append_seam}
 use Rattle.std.specs.Prelude.{codes, option_map, IfSome, flat_map}
 use Rattle.std.specs.List.{All, AllByRecursion}
@@ -12,13 +12,13 @@ use Rattle.spoc_parser.specs.declared.forms.Form.{Form}
 use Rattle.spoc_parser.specs.declared.forms.Form.TheVariants.{Any, Name, Address, Prefix, Number, Range, Ports, Icmp, Filter, Routing, Note, ListKey, ValueKey, Flag}
 use Rattle.spoc_parser.specs.Trees as trees
 use Rattle.spoc_parser.specs.Trees.{PortItem, IdleItem, TermOf, network, host, port, group, aggregate, area, user, nets, hosts, anys, InterOf, SetOf, SetIn, HostItem, host_ip, host_range, host_idle, NatItem, nat_ip, NetItem, net_ip, net_host, net_nat, net_idle, IfaceItem, iface_ip, iface_hardware, iface_bind_nat, iface_idle, RouterItem, router_managed, router_model, router_routing, router_iface, router_idle, AreaItem, area_anchor, area_border, area_idle, AnyItem, any_link, any_ip, any_idle, Proto, proto_ip, proto_tcp, proto_udp, proto_icmp, proto_number, ProtoItem, one_proto, a_protocol, a_protogroup, RuleOf, DeclOf, network_decl, router_decl, group_decl, area_decl, aggregate_decl, protocol_decl, protogroup_decl, restriction_decl, service_decl, DeclIn}
-use Rattle.spoc_parser.specs.Phrases.{Phrase, ◌then◌, sign, key, a_word, named, at_port, a_text, spread, single, none_of, listed, word_token, perhaps, many}
-use Rattle.spoc_parser.specs.Grammar.{SpellsDesc, SpellsIdle, setting, body, body_with, SpellsHostItem, SpellsNatItem, SpellsNetItem, SpellsIfaceItem, SpellsRouterItem, SpellsAreaItem, SpellsAnyItem, spread_or_none, SpellsProto, SpellsProtoItem, SpellsTermOf, SpellsFurther, SpellsInter, SpellsSet, SpellsSetIn, SpellsRule, SpellsDecl, SpellsDeclIn, SpellsFile}
+use Rattle.spoc_parser.specs.Phrases.{Phrase, ◌then◌, a_word, named, at_port, a_text, spread, single, none_of, listed, word_token, perhaps}
+use Rattle.spoc_parser.specs.Grammar.{SpellsDesc, SpellsIdle, setting, body_with, SpellsHostItem, SpellsNatItem, SpellsNetItem, SpellsIfaceItem, SpellsRouterItem, SpellsAreaItem, SpellsAnyItem, spread_or_none, SpellsProto, SpellsProtoItem, SpellsTermOf, SpellsInter, SpellsSet, SpellsSetIn, SpellsRule, SpellsDecl, SpellsDeclIn, SpellsFile}
 use Rattle.spoc_ast.specs.Written.{Lexeme, SetText}
 use Rattle.spoc_ast.specs.Seen.{narrowing, joined}
 use Rattle.syntax_laws.specs.Said.{lexeme_said, lexemes_said, port_said, term_said, further_said, inter_said, parts_said, set_said, idle_said, host_item_said, nat_item_said, net_item_said, iface_item_said, router_item_said, area_item_said, any_item_said, proto_said, proto_item_said, rule_said, decl_of_said, decl_said, decls_said}
 use Rattle.syntax_laws.specs.WordsIn.{IsSlice, perhaps_in, word_in, port_words, set_words, idle_words, host_words, nat_words, net_words, iface_words, router_words, area_words, any_words, simple_words, prt_words, rule_words, headed, words_in}
-use Rattle.syntax_laws.proofs.Phrases.{Gives, halves, left, right, each, setting_gives, always, then_so, either, where_gives, none_gives, perhaps_gives, many_gives, some_gives, further_gives, listed_gives, listed_open_gives, body_gives, parts_give}
+use Rattle.syntax_laws.proofs.Phrases.{Gives, halves, left, right, each, setting_gives, always, then_so, either, where_gives, none_gives, perhaps_gives, many_gives, some_gives, further_gives, listed_gives, listed_open_gives, body_gives}
 
 -- ---- lists of words
 
@@ -74,8 +74,8 @@ module _ (file : ℕ) (text : List ℕ) where
   inner : (tok : Tok) → IsPart text tok → (before own after : List ℕ) (start : ℕ) → tok.text ≡ before ++ (own ++ after) → start ≡ tok.start + length before → IsSlice file text (lexeme_said file (record { start = start; text = own }))
   inner tok part before own after start e at =
       slice (part.0 ++ before) own (after ++ part.1) start
-        (part.2 ∙ ap (λ l. part.0 ++ (l ++ part.1)) e ∙ ap (λ l. part.0 ++ l) (append_assoc before (own ++ after) part.1 ∙ ap (λ l. before ++ l) (append_assoc own after part.1)) ∙ sym (append_assoc part.0 before (own ++ (after ++ part.1))))
-        (at ∙ ap (λ n. n + length before) (sym part.3) ∙ sym (length-append part.0 before))
+      (part.2 ∙ ap (λ l. part.0 ++ (l ++ part.1)) e ∙ ap (λ l. part.0 ++ l) (append_assoc before (own ++ after) part.1 ∙ ap (λ l. before ++ l) (append_assoc own after part.1)) ∙ sym (append_assoc part.0 before (own ++ (after ++ part.1))))
+      (at ∙ ap (λ n. n + length before) (sym part.3) ∙ sym (length-append part.0 before))
 
   -- the fact of a word, and of all words that a phrase spells
   abbrev Own : trees.Lexeme → Type 0
@@ -119,8 +119,8 @@ module _ (file : ℕ) (text : List ℕ) where
       second toks all p =
           let long : length (codes "interface:" ++ (place.router.text ++ 46 ∷ [])) ≡ 10 + (length place.router.text + 1) = omega (arith, length-append place.router.text (46 ∷ [])) in
           inner (at_interface place p.0) (subst (AllByRecursion (IsPart text)) p.5 all).0 (codes "interface:" ++ (place.router.text ++ 46 ∷ [])) place.net.text [] place.net.start
-            (ap (λ l. codes "interface:" ++ l) (ap (λ l. place.router.text ++ 46 ∷ l) (sym (append-nil place.net.text)) ∙ sym (append_assoc place.router.text (46 ∷ []) (place.net.text ++ []))))
-            (p.4 ∙ omega arith)
+          (ap (λ l. codes "interface:" ++ l) (ap (λ l. place.router.text ++ 46 ∷ l) (sym (append-nil place.net.text)) ∙ sym (append_assoc place.router.text (46 ∷ []) (place.net.text ++ []))))
+          (p.4 ∙ omega arith)
 
   one : {phrase : Phrase} {word : trees.Lexeme} → Gives (IsPart text) phrase (Own word) → Sliced phrase (lexeme_said file word ∷ [])
   one g = then_so (λ s. (s, tt)) g
@@ -149,8 +149,8 @@ module _ (file : ℕ) (text : List ℕ) where
   idle_sliced : (idle : IdleItem) → Sliced (SpellsIdle idle) (idle_words (idle_said file idle))
   idle_sliced idle =
       either (each (λ k vs. (k, vs)) (word_sliced ListKey idle.key) (right (left (listed_words Any idle.values))))
-        (either (each (λ k vs. (k, vs)) (word_sliced ValueKey idle.key) (right (left (single_sliced idle.values))))
-          (each (λ k vs. (k, vs)) (word_sliced Flag idle.key) (left (none_sliced idle.values))))
+      (either (each (λ k vs. (k, vs)) (word_sliced ValueKey idle.key) (right (left (single_sliced idle.values))))
+      (each (λ k vs. (k, vs)) (word_sliced Flag idle.key) (left (none_sliced idle.values))))
     where
       single_sliced : (words : List trees.Lexeme) → Sliced (single (a_word Any) words) (lexemes_said file words)
       single_sliced [] = always tt
@@ -192,8 +192,8 @@ module _ (file : ℕ) (text : List ℕ) where
   router_item_sliced (router_routing word) = set_to (codes "routing") Routing word
   router_item_sliced (router_iface net parts) =
       with_name (codes "interface:") net (either
-        (left (none_gives parts (λ is. subst (λ (l : List IfaceItem). All_of (flat_map iface_words (map (iface_item_said file) l))) (sym is) tt)))
-        (then_so (flat (IsSlice file text) iface_words (iface_item_said file) parts) (body_gives iface_item_sliced parts)))
+      (left (none_gives parts (λ is. subst (λ (l : List IfaceItem). All_of (flat_map iface_words (map (iface_item_said file) l))) (sym is) tt)))
+      (then_so (flat (IsSlice file text) iface_words (iface_item_said file) parts) (body_gives iface_item_sliced parts)))
   router_item_sliced (router_idle idle) = idle_sliced idle
 
   area_item_sliced : (item : AreaItem) → Sliced (SpellsAreaItem item) (area_words (area_item_said file item))
@@ -232,8 +232,8 @@ module _ (file : ℕ) (text : List ℕ) where
   term_sliced with_user bracket says s (hosts set) = right (right (left (s set)))
   term_sliced with_user bracket says s (anys inside set) =
       right (right (each (appended (IsSlice file text) (perhaps_in word_in (option_map (lexeme_said file) inside)) (set_words (says set)))
-        (then_so (perhaps_one (IsSlice file text) word_in (lexeme_said file) inside) (perhaps_gives (λ prefix. right (right (left (one {word = prefix} (word_sliced Prefix prefix))))) inside))
-        (left (s set))))
+      (then_so (perhaps_one (IsSlice file text) word_in (lexeme_said file) inside) (perhaps_gives (λ prefix. right (right (left (one {word = prefix} (word_sliced Prefix prefix))))) inside))
+      (left (s set))))
 
   inter_sliced : {T : Type 0} {spells : T → Phrase} (says : T → SetText) → ((term : T) → Sliced (spells term) (set_words (says term))) → (i : InterOf T) → Sliced (SpellsInter spells i) (set_words (inter_said says i))
   inter_sliced says s i = each (further_words (IsSlice file text) says (says i.0) i.1) (s i.0) (many_gives (λ f. right (right (s f.1))) i.1)
@@ -250,8 +250,8 @@ module _ (file : ℕ) (text : List ℕ) where
   rule_sliced : {S : Type 0} {spells : S → Phrase} (says : S → SetText) → ((set : S) → Sliced (spells set) (set_words (says set))) → (rule : RuleOf S) → Sliced (SpellsRule spells rule) (rule_words (rule_said file says rule))
   rule_sliced says s rule =
       right (right (right (each (appended (IsSlice file text) (set_words (says rule.src)) _) (s rule.src)
-        (right (right (right (each (appended (IsSlice file text) (set_words (says rule.dst)) (flat_map prt_words (map (proto_item_said file) rule.prts))) (s rule.dst)
-          (right (right (right (left (then_so (flat (IsSlice file text) prt_words (proto_item_said file) rule.prts) (listed_open_gives proto_item_sliced rule.prts)))))))))))))
+      (right (right (right (each (appended (IsSlice file text) (set_words (says rule.dst)) (flat_map prt_words (map (proto_item_said file) rule.prts))) (s rule.dst)
+      (right (right (right (left (then_so (flat (IsSlice file text) prt_words (proto_item_said file) rule.prts) (listed_open_gives proto_item_sliced rule.prts)))))))))))))
 
   -- a description, and the words of what is behind it
   described : (desc : Option trees.Lexeme) {phrase : Phrase} (words : List Lexeme) → Sliced phrase words → Sliced (perhaps SpellsDesc desc then phrase) (perhaps_in word_in (option_map (lexeme_said file) desc) ++ words)
@@ -268,14 +268,14 @@ module _ (file : ℕ) (text : List ℕ) where
   decl_of_sliced says s t (aggregate_decl name desc parts) = with_parts (codes "any:") name desc any_words (any_item_said file) any_item_sliced parts
   decl_of_sliced says s t (protocol_decl name proto notes) =
       with_name (codes "protocol:") name (right (each (appended (IsSlice file text) (simple_words (proto_said file proto)) (lexemes_said file notes)) (proto_sliced proto)
-        (left (then_so (mapped (IsSlice file text) (lexeme_said file) notes) (further_gives (word_sliced Note) notes)))))
+      (left (then_so (mapped (IsSlice file text) (lexeme_said file) notes) (further_gives (word_sliced Note) notes)))))
   decl_of_sliced says s t (protogroup_decl name prts) = with_name (codes "protocolgroup:") name (right (left (then_so (flat (IsSlice file text) prt_words (proto_item_said file) prts) (listed_open_gives proto_item_sliced prts))))
   decl_of_sliced says s t (restriction_decl name desc ports) = with_name (codes "pathrestriction:") name (right (described desc (flat_map port_words (map (port_said file) ports)) (left (then_so (flat (IsSlice file text) port_words (port_said file) ports) (listed_open_gives port_sliced ports)))))
   decl_of_sliced says s t (service_decl name desc idle users rules) =
       with_name (codes "service:") name (right (right (described desc _
-        (each (appended (IsSlice file text) (flat_map idle_words (map (idle_said file) idle)) _) (then_so (flat (IsSlice file text) idle_words (idle_said file) idle) (many_gives idle_sliced idle))
-          (right (right (each (appended (IsSlice file text) (set_words (says users)) (flat_map rule_words (map (rule_said file says) rules))) (s users)
-            (right (left (then_so (flat (IsSlice file text) rule_words (rule_said file says) rules) (some_gives (rule_sliced says t) rules)))))))))))
+      (each (appended (IsSlice file text) (flat_map idle_words (map (idle_said file) idle)) _) (then_so (flat (IsSlice file text) idle_words (idle_said file) idle) (many_gives idle_sliced idle))
+      (right (right (each (appended (IsSlice file text) (set_words (says users)) (flat_map rule_words (map (rule_said file says) rules))) (s users)
+      (right (left (then_so (flat (IsSlice file text) rule_words (rule_said file says) rules) (some_gives (rule_sliced says t) rules)))))))))))
 
   decl_sliced : (depth : ℕ) (decl : DeclIn depth) → Sliced (SpellsDeclIn depth decl) (words_in (decl_said file depth decl))
   decl_sliced depth decl = decl_of_sliced (set_said file depth) (set_sliced false depth false) (set_sliced true depth false) decl

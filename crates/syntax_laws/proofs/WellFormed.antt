@@ -1,5 +1,5 @@
 -- Each row of the grammar spells what is well formed.
-use Rattle.std.proofs.Common.{◌≡◌, ◌≢◌, ℕ, zero, suc, Bool, true, false, not, ◌&&◌, List, [], ◌∷◌, ◌++◌, map, Option, Some, None, refl, sym, ap, subst, ◌∙◌}
+use Rattle.std.proofs.Common.{◌≡◌, ◌≢◌, ℕ, zero, suc, Bool, true, false, not, List, [], ◌∷◌, ◌++◌, map, Option, Some, None, refl, sym, ap, subst}
 use Rattle.std.specs.Prelude.{codes, option_map, is_some, IfSome}
 use Rattle.std.specs.List.{All, list_all, AllByRecursion}
 use Rattle.std.proofs.lemmas.List.Elements.{recursion_from_All}
@@ -9,9 +9,9 @@ use Rattle.spoc_parser.specs.declared.forms.Form.TheVariants.{Any, Address, Pref
 use Rattle.spoc_parser.specs.Trees as trees
 use Rattle.spoc_parser.specs.Trees.{PortItem, IdleItem, TermOf, network, host, port, group, aggregate, area, user, nets, hosts, anys, InterOf, SetOf, SetIn, HostItem, host_ip, host_range, host_idle, NatItem, nat_ip, NetItem, net_ip, net_host, net_nat, net_idle, IfaceItem, iface_ip, iface_hardware, iface_bind_nat, iface_idle, RouterItem, router_managed, router_model, router_routing, router_iface, router_idle, AreaItem, area_anchor, area_border, area_idle, AnyItem, any_link, any_ip, any_idle, Proto, proto_ip, proto_tcp, proto_udp, proto_icmp, proto_number, ProtoItem, one_proto, a_protocol, a_protogroup, RuleOf, DeclOf, network_decl, router_decl, group_decl, area_decl, aggregate_decl, protocol_decl, protogroup_decl, restriction_decl, service_decl, DeclIn}
 use Rattle.spoc_parser.specs.Texts.{fits, joined}
-use Rattle.spoc_parser.specs.Phrases.{Phrase, ◌then◌, sign, key, a_word, many, spread, word_token}
-use Rattle.spoc_parser.specs.Grammar.{SpellsHostItem, SpellsNatItem, SpellsNetItem, SpellsIfaceItem, SpellsRouterItem, SpellsAnyItem, spread_or_none, SpellsProto, SpellsProtoItem, SpellsTermOf, SpellsFurther, SpellsInter, SpellsSet, SpellsSetIn, SpellsRule, SpellsDecl, SpellsDeclIn, SpellsFile}
-use Rattle.spoc_ast.specs.Written.{Lexeme, SetText, Joining, Keeping, Leaving}
+use Rattle.spoc_parser.specs.Phrases.{Phrase, a_word, spread}
+use Rattle.spoc_parser.specs.Grammar.{SpellsHostItem, SpellsNatItem, SpellsNetItem, SpellsIfaceItem, SpellsRouterItem, SpellsAnyItem, spread_or_none, SpellsProto, SpellsProtoItem, SpellsTermOf, SpellsInter, SpellsSet, SpellsSetIn, SpellsRule, SpellsDecl, SpellsDeclIn, SpellsFile}
+use Rattle.spoc_ast.specs.Written.{SetText}
 use Rattle.spoc_ast.specs.Seen.{narrowing}
 use Rattle.spoc_ast.specs.Seen as ast
 use Rattle.policy_model.specs.Lists.{is_nothing}
@@ -21,7 +21,7 @@ use Rattle.policy_decls.specs.Formed.{asks_prefix, is_formed_set, is_formed_host
 use Rattle.syntax_laws.specs.Said.{lexeme_said, lexemes_said, term_said, further_said, inter_said, parts_said, set_said, host_item_said, nat_item_said, net_item_said, iface_item_said, router_item_said, any_item_said, proto_said, proto_item_said, rule_said, decl_of_said, decl_said, decls_said}
 use Rattle.syntax_laws.specs.Words.{IsWritten}
 use Rattle.syntax_laws.proofs.Numbers.{Has, passes_both, number_has, address_has, prefix_has, range_has, ports_have, icmp_has}
-use Rattle.syntax_laws.proofs.Phrases.{Gives, left, right, each, setting_gives, always, then_so, either, where_gives, none_gives, perhaps_gives, many_gives, some_gives, listed_gives, listed_open_gives, body_gives, parts_give}
+use Rattle.syntax_laws.proofs.Phrases.{Gives, left, right, each, setting_gives, always, then_so, either, none_gives, perhaps_gives, many_gives, some_gives, listed_open_gives, body_gives, parts_give}
 
 -- a phrase spells what passes the test, where words have bytes
 abbrev Passes : Phrase → Bool → Type 0
@@ -175,7 +175,7 @@ set_formed file with_user (suc depth) bracket set = parts_formed with_user brack
 rule_formed : {S : Type 0} (file : ℕ) {spells : S → Phrase} (says : S → SetText) → Formed true false spells says → (rule : RuleOf S) → Passes (SpellsRule spells rule) (is_formed_rule (rule_said file says rule))
 rule_formed file says s rule =
     right (right (right (each {R = (is_formed_set true false (says rule.dst) ≡ true) × AllByRecursion (λ item. is_formed_prt (proto_item_said file item) ≡ true) rule.prts} (λ p q. passes_both _ _ (passes_both (is_formed_set true false (says rule.src)) (is_formed_set true false (says rule.dst)) p q.0) (all_pass is_formed_prt (proto_item_said file) rule.prts q.1)) (s rule.src)
-      (right (right (right (each (λ p q. (p, q)) (s rule.dst) (right (right (right (left (listed_open_gives (proto_item_formed file) rule.prts))))))))))))
+    (right (right (right (each (λ p q. (p, q)) (s rule.dst) (right (right (right (left (listed_open_gives (proto_item_formed file) rule.prts))))))))))))
 
 decl_of_formed : {S : Type 0} (file : ℕ) {spells in_rules : S → Phrase} (says : S → SetText) → Formed false false spells says → Formed true false in_rules says → (decl : DeclOf S) → Passes (SpellsDecl spells in_rules decl) (is_formed (decl_of_said file says decl))
 decl_of_formed file says s t (network_decl name desc parts) = right (then_so (all_pass is_formed_net (net_item_said file) parts) (parts_give desc (net_item_formed file) parts))

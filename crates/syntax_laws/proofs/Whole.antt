@@ -1,5 +1,5 @@
 -- What is read of a whole text.
-use Rattle.std.proofs.Common.{◌≡◌, ℕ, true, List, [], ◌∷◌, ◌++◌, Option, Some, None, Ok, length, refl, sym, ap, subst, ◌∙◌}
+use Rattle.std.proofs.Common.{◌≡◌, ℕ, true, List, [], Option, Some, None, Ok, length, refl, sym, ap, subst, ◌∙◌}
 use Rattle.std.specs.Prelude.{flat_map}
 use Rattle.std.specs.List.{All, AllByRecursion}
 use Rattle.std.proofs.lemmas.List.Elements.{All-from_recursion, recursion_from_All}
@@ -7,7 +7,6 @@ use Rattle.spoc_ast.specs.declared.decl.File.{File}
 use Rattle.spoc_ast.specs.Seen.{file_seen}
 use Rattle.spoc_lexer.specs.Tokens.{Tok, tokens_of}
 use Rattle.spoc_parser.specs.Files.{run_of}
-use Rattle.spoc_parser.specs.Grammar.{SpellsFile}
 use Rattle.spoc_parser.specs.Seen.{IsSetIn}
 use Rattle.spoc_parser.specs.SeenFile.{Ran}
 use Rattle.spoc_parser.specs.SeenParts.{IsDecl}

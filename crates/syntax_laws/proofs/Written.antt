@@ -3,7 +3,7 @@ use Rattle.std.proofs.Common.{◌≡◌, ◌≢◌, ℕ, ◌+◌, List, [], ◌�
 use Rattle.std.specs.List.{All, AllByRecursion}
 use Rattle.std.proofs.lemmas.List.Elements.{All-from_recursion}
 use Rattle.spoc_lexer.specs.Tokens.{Tok, tokens_of}
-use Rattle.spoc_lexer.specs.Grammar.{Piece, Blank, Comment, Word, Sign, Text, bytes_of, StandsBefore, Stand, tokens_from}
+use Rattle.spoc_lexer.specs.Grammar.{Piece, Blank, Comment, Word, Sign, Text, StandsBefore, Stand, tokens_from}
 use Rattle.spoc_lexer.proofs.Dividing.{has_tokens}
 use Rattle.syntax_laws.specs.Words.{IsWritten}
 
