@@ -5,3 +5,4 @@ pub mod WellFormed
 pub mod Written
 pub mod Slicing
 pub mod Whole
+pub mod Mentions

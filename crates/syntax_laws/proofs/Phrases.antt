@@ -12,7 +12,7 @@ use Rattle.spoc_parser.specs.Grammar.{setting, body, body_with}
 pub record Gives (P : Tok → Type 0) (phrase : Phrase) (Q : Type 0) : Type 0 where
   pub gives : (toks : List Tok) → AllByRecursion P toks → phrase toks → Q
 
-pub halves : (P : Tok → Type 0) (xs ys : List Tok) → AllByRecursion P (xs ++ ys) → AllByRecursion P xs × AllByRecursion P ys
+pub halves : {X : Type 0} (P : X → Type 0) (xs ys : List X) → AllByRecursion P (xs ++ ys) → AllByRecursion P xs × AllByRecursion P ys
 halves P [] ys h = (tt, h)
 halves P (x ∷ xs) ys h = let more = halves P xs ys h.1 in ((h.0, more.0), more.1)
 

@@ -83,7 +83,7 @@ simple_words (SimpleIcmp words) = words
 simple_words (SimpleProto number) = number ∷ []
 
 abbrev pub prt_words : PrtText → List Lexeme
-prt_words (PrtSimple simple) = simple_words simple
+prt_words (PrtSimple protocol) = simple_words protocol
 prt_words (PrtProtocol name) = name ∷ []
 prt_words (PrtGroup name) = name ∷ []
 
@@ -101,7 +101,7 @@ words_in (RouterDecl name desc parts) = headed name desc (flat_map router_words 
 words_in (GroupDecl name desc objects) = headed name desc (perhaps_in set_words objects)
 words_in (AreaDecl name desc parts) = headed name desc (flat_map area_words parts)
 words_in (AggregateDecl name desc parts) = headed name desc (flat_map any_words parts)
-words_in (ProtocolDecl name simple notes) = name ∷ (simple_words simple ++ notes)
+words_in (ProtocolDecl name protocol notes) = name ∷ (simple_words protocol ++ notes)
 words_in (ProtocolGroupDecl name prts) = name ∷ flat_map prt_words prts
 words_in (RestrictionDecl name desc ports) = headed name desc (flat_map port_words ports)
 words_in (ServiceDecl name desc idle user rules) = headed name desc (flat_map idle_words idle ++ (set_words user ++ flat_map rule_words rules))
