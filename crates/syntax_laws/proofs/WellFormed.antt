@@ -9,16 +9,16 @@ use Rattle.spoc_parser.specs.declared.forms.Form.TheVariants.{Any, Address, Pref
 use Rattle.spoc_parser.specs.Trees as trees
 use Rattle.spoc_parser.specs.Trees.{PortItem, IdleItem, TermOf, network, host, port, group, aggregate, area, user, nets, hosts, anys, InterOf, SetOf, SetIn, HostItem, host_ip, host_range, host_idle, NatItem, nat_ip, NetItem, net_ip, net_host, net_nat, net_idle, IfaceItem, iface_ip, iface_hardware, iface_bind_nat, iface_idle, RouterItem, router_managed, router_model, router_routing, router_iface, router_idle, AreaItem, area_anchor, area_border, area_idle, AnyItem, any_link, any_ip, any_idle, Proto, proto_ip, proto_tcp, proto_udp, proto_icmp, proto_number, ProtoItem, one_proto, a_protocol, a_protogroup, RuleOf, DeclOf, network_decl, router_decl, group_decl, area_decl, aggregate_decl, protocol_decl, protogroup_decl, restriction_decl, service_decl, DeclIn}
 use Rattle.spoc_parser.specs.Texts.{fits, joined}
-use Rattle.spoc_parser.specs.Phrases.{Phrase, a_word, spread}
-use Rattle.spoc_parser.specs.Grammar.{SpellsHostItem, SpellsNatItem, SpellsNetItem, SpellsIfaceItem, SpellsRouterItem, SpellsAnyItem, spread_or_none, SpellsProto, SpellsProtoItem, SpellsTermOf, SpellsInter, SpellsSet, SpellsSetIn, SpellsRule, SpellsDecl, SpellsDeclIn, SpellsFile}
+use Rattle.spoc_parser.specs.Phrases.{Phrase, a_word, spread, listed, at_port}
+use Rattle.spoc_parser.specs.Grammar.{SpellsHostItem, SpellsNatItem, SpellsNetItem, SpellsIfaceItem, SpellsRouterItem, SpellsAnyItem, spread_or_none, SpellsProto, SpellsProtoItem, SpellsTermOf, SpellsInter, SpellsSet, SpellsSetIn, SpellsRule, SpellsDecl, SpellsDeclIn, SpellsFile, SpellsAreaItem}
 use Rattle.spoc_ast.specs.Written.{SetText}
 use Rattle.spoc_ast.specs.Seen.{narrowing}
 use Rattle.spoc_ast.specs.Seen as ast
 use Rattle.policy_model.specs.Lists.{is_nothing}
 use Rattle.policy_decls.specs.Numbers.{address_of, prefix_of, range_of, port_pair_of, icmp_of, number_of}
 use Rattle.policy_decls.specs.Numbers as numbers
-use Rattle.policy_decls.specs.Formed.{asks_prefix, is_formed_set, is_formed_host, is_formed_nat, is_formed_net, is_formed_iface, is_formed_router, is_formed_any, is_formed_simple, is_formed_prt, is_formed_rule, is_formed_objects, is_formed, are_formed}
-use Rattle.syntax_laws.specs.Said.{lexeme_said, lexemes_said, term_said, further_said, inter_said, parts_said, set_said, host_item_said, nat_item_said, net_item_said, iface_item_said, router_item_said, any_item_said, proto_said, proto_item_said, rule_said, decl_of_said, decl_said, decls_said}
+use Rattle.policy_decls.specs.Formed.{asks_prefix, is_formed_set, is_formed_host, is_formed_nat, is_formed_net, is_formed_iface, is_formed_router, is_formed_any, is_formed_simple, is_formed_prt, is_formed_rule, is_formed_objects, is_formed, are_formed, is_formed_area}
+use Rattle.syntax_laws.specs.Said.{lexeme_said, lexemes_said, term_said, further_said, inter_said, parts_said, set_said, host_item_said, nat_item_said, net_item_said, iface_item_said, router_item_said, any_item_said, proto_said, proto_item_said, rule_said, decl_of_said, decl_said, decls_said, area_item_said, port_said}
 use Rattle.syntax_laws.specs.Words.{IsWritten}
 use Rattle.syntax_laws.proofs.Numbers.{Has, passes_both, number_has, address_has, prefix_has, range_has, ports_have, icmp_has}
 use Rattle.syntax_laws.proofs.Phrases.{Gives, left, right, each, setting_gives, always, then_so, either, none_gives, perhaps_gives, many_gives, some_gives, listed_open_gives, body_gives, parts_give}
@@ -99,6 +99,16 @@ router_item_formed file (router_iface net parts) =
     let pass = all_pass is_formed_iface (iface_item_said file) parts in
     right (either (left (none_gives parts (λ is. subst (λ (l : List IfaceItem). list_all is_formed_iface (map (iface_item_said file) l) ≡ true) (sym is) refl))) (then_so pass (body_gives (iface_item_formed file) parts)))
 router_item_formed file (router_idle idle) = always refl
+
+-- a list names something
+listed_some : (file : ℕ) (ports : List PortItem) → Passes (listed at_port ports) (not (is_nothing (map (port_said file) ports)))
+listed_some file [] = record { gives = λ toks all p. absurd p }
+listed_some file (p ∷ ports) = always refl
+
+area_item_formed : (file : ℕ) (item : AreaItem) → Passes (SpellsAreaItem item) (is_formed_area (area_item_said file item))
+area_item_formed file (area_anchor net) = always refl
+area_item_formed file (area_border ports) = right (right (left (listed_some file ports)))
+area_item_formed file (area_idle idle) = always refl
 
 any_item_formed : (file : ℕ) (item : AnyItem) → Passes (SpellsAnyItem item) (is_formed_any (any_item_said file item))
 any_item_formed file (any_link net) = always refl
@@ -185,7 +195,7 @@ decl_of_formed file says s t (group_decl name desc objects) = right (right (righ
     formed : (o : Option _) → IfSome o (λ x. is_formed_set false false (says x) ≡ true) → is_formed_objects (option_map says o) ≡ true
     formed None h = refl
     formed (Some x) h = h
-decl_of_formed file says s t (area_decl name desc parts) = always refl
+decl_of_formed file says s t (area_decl name desc parts) = right (then_so (all_pass is_formed_area (area_item_said file) parts) (parts_give desc (area_item_formed file) parts))
 decl_of_formed file says s t (aggregate_decl name desc parts) = right (then_so (all_pass is_formed_any (any_item_said file) parts) (parts_give desc (any_item_formed file) parts))
 decl_of_formed file says s t (protocol_decl name proto notes) = right (right (left (proto_formed file proto)))
 decl_of_formed file says s t (protogroup_decl name prts) = right (right (left (then_so (all_pass is_formed_prt (proto_item_said file) prts) (listed_open_gives (proto_item_formed file) prts))))
