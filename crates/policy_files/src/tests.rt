@@ -1,39 +1,40 @@
 // Reading policy files, with ample memory.
+ghost use Rattle.std.specs.Prelude.{◌≡◌, ◌≤◌, IfOk, length};
+
 use crate::read_files;
 use bumpalo::Bump;
 use spoc_base::{Fault, NoMemory, Refusal, Source, Text};
 use std::alloc::Global;
 use std::test::Fail;
 
-fn sources(alloc: Global, listed: &[(&str, &str)]) -> Result<Vec<Source>, NoMemory> {
-    let mut sources = Vec::new(alloc);
-    for (path, text) in listed {
-        let path = Text::of(alloc, path.as_bytes())?;
-        let text = Text::of(alloc, text.as_bytes())?;
-        sources.push(Source { path, text })?;
-    }
-    Ok(sources)
+fn source(alloc: Global, path: &[u8], text: &[u8]) -> Result<Source, NoMemory>
+    requires { length text.now ≤ 4194304 }
+    ensures { IfOk result (λ source. length source.text ≤ 4194304) }
+{
+    let path = Text::of(alloc, path)?;
+    let text = Text::of(alloc, text)?;
+    Ok(Source { path, text })
 }
 
 #[test]
 fn files_are_read_in_their_order(rt: HostRuntime) -> Result<(), Fail> {
     let alloc = rt.alloc();
     let arena = Bump::new(alloc);
-    let good = sources(
-        alloc,
-        &[
-            ("a", "network:n = { ip = 10.0.0.0/8; }"),
-            ("b", "group:g = ; area:x = { anchor = network:n; }"),
-        ],
-    )?;
-    let read = read_files(alloc, &arena, &good);
-    let Ok(files) = read else {
+    let good = [
+        source(alloc, b"a", b"network:n = { ip = 10.0.0.0/8; }")?,
+        source(alloc, b"b", b"group:g = ; area:x = { anchor = network:n; }")?,
+    ];
+    let Ok(files) = read_files(alloc, &arena, &good) else {
         assert!(&rt; false);
         return Ok(());
     };
     assert_eq!(&rt; files.len(), 2);
-    assert_eq!(&rt; files[0].decls.len(), 1);
-    assert_eq!(&rt; files[1].decls.len(), 2);
+    let counts: [usize; 2] = match files.as_slice() {
+        [a, b] => [a.decls.len(), b.decls.len()],
+        _ => [0, 0],
+    };
+    assert_eq!(&rt; counts[0], 1);
+    assert_eq!(&rt; counts[1], 2);
     Ok(())
 }
 
@@ -42,10 +43,10 @@ fn files_are_read_in_their_order(rt: HostRuntime) -> Result<(), Fail> {
 fn the_earliest_kind_of_fault_counts(rt: HostRuntime) -> Result<(), Fail> {
     let alloc = rt.alloc();
     let arena = Bump::new(alloc);
-    let bad = sources(
-        alloc,
-        &[("a", "[[[[[[[[[[[[[[[[["), ("b", "  owner:it = { }")],
-    )?;
+    let bad = [
+        source(alloc, b"a", b"[[[[[[[[[[[[[[[[[")?,
+        source(alloc, b"b", b"  owner:it = { }")?,
+    ];
     let read = read_files(alloc, &arena, &bad);
     assert!(&rt;
         matches!(
