@@ -60,14 +60,13 @@ fn folder(alloc: Global, text: &[u8], read_fails: &[u32]) -> Result<MemFolder, N
     MemFolder::new(alloc, files, 0, read_fails.to_vec(alloc)?, Vec::new(alloc))
 }
 
-// A folder with these files, by path and text.
-fn folder_of(alloc: Global, listed: &[(&str, &str)]) -> Result<MemFolder, NoMemory> {
+// A folder with the files `p` and `a`.
+fn two_files(alloc: Global, p: &[u8], a: &[u8]) -> Result<MemFolder, NoMemory> {
+    let p = (Text::of(alloc, b"p")?, Text::of(alloc, p)?);
+    let a = (Text::of(alloc, b"a")?, Text::of(alloc, a)?);
     let mut files = Vec::new(alloc);
-    for (path, text) in listed {
-        let path = Text::of(alloc, path.as_bytes())?;
-        let text = Text::of(alloc, text.as_bytes())?;
-        files.push((path, text))?;
-    }
+    files.push(p)?;
+    files.push(a)?;
     MemFolder::new(alloc, files, 0, Vec::new(alloc), Vec::new(alloc))
 }
 
@@ -276,20 +275,14 @@ service:s = { description = a $ ; }
  user = network:a; permit src = user; dst = network:a; prt = ip; }
 ";
 
-// Runs `compile p c` over a folder with one file, or with two, and compares the one line of the
-// fault.
-fn compare_fault(
-    rt: &impl Abort,
-    alloc: Global,
-    listed: &[(&str, &str)],
-    line: &str,
-) -> Result<(), NoMemory> {
+// Runs `compile p c` over a folder with the one file `p`, and compares the line of the fault.
+fn compare_fault(rt: &impl Abort, alloc: Global, text: &[u8], line: &str) -> Result<(), NoMemory> {
     let wanted = Wanted {
         status: 1,
         text: line,
         device: None,
     };
-    let mut policy = folder_of(alloc, listed)?;
+    let mut policy = folder(alloc, text, &[])?;
     let mut code = target(alloc, &[])?;
     compare(rt, alloc, &mut policy, &mut code, &wanted)
 }
@@ -297,19 +290,22 @@ fn compare_fault(
 #[test]
 fn texts_outside_the_language_are_refused(rt: HostRuntime) -> Result<(), Fail> {
     let alloc = rt.alloc();
-    compare_fault(&rt, alloc, &[("p", "$")], "fault Lex p 0\n")?;
-    let omitted = [("p", POLICY), ("a", "crypto:v = { }\n")];
-    compare_fault(&rt, alloc, &omitted, "fault LeftOut a 0 crypto:v\n")?;
-    let deep = "[[[[[[[[[[[[[[[[[";
-    compare_fault(&rt, alloc, &[("p", deep)], "fault Deep p 16\n")?;
-    compare_fault(&rt, alloc, &[("p", DESCRIBED)], "fault Form\n")?;
-    let cut = Wanted {
+    compare_fault(&rt, alloc, b"$", "fault Lex p 0\n")?;
+    compare_fault(&rt, alloc, b"[[[[[[[[[[[[[[[[[", "fault Deep p 16\n")?;
+    compare_fault(
+        &rt,
+        alloc,
+        &POLICY.as_bytes()[..245],
+        "fault Syntax p 210\n",
+    )?;
+    compare_fault(&rt, alloc, DESCRIBED.as_bytes(), "fault Form\n")?;
+    let omitted = Wanted {
         status: 1,
-        text: "fault Syntax p 210\n",
+        text: "fault LeftOut a 0 crypto:v\n",
         device: None,
     };
-    let mut policy = folder(alloc, &POLICY.as_bytes()[..245], &[])?;
+    let mut policy = two_files(alloc, POLICY.as_bytes(), b"crypto:v = { }\n")?;
     let mut code = target(alloc, &[])?;
-    compare(&rt, alloc, &mut policy, &mut code, &cut)?;
+    compare(&rt, alloc, &mut policy, &mut code, &omitted)?;
     Ok(())
 }
