@@ -1,3 +1,4 @@
 pub mod Seen
 pub mod Keys
+pub mod Sets
 pub mod Rows

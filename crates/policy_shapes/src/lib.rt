@@ -3,5 +3,8 @@
 
 mod block;
 mod iface;
+mod keys;
 mod network;
+mod protocol;
+mod sets;
 mod word;
