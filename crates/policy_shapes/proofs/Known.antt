@@ -30,6 +30,10 @@ pub has_appended : (xs ys : List Key) → has_key (xs ++ ys) ≡ with_keys (has_
 unfolding with_keys
 has_appended xs ys i k = list_any-append (same_key k) xs ys i
 
+pub with_empty : (keys more : List Key) → keys ≡ [] → with_keys (has_key keys) more ≡ has_key more
+unfolding with_keys
+with_empty keys more e = ap (λ l. with_keys (has_key l) more) e
+
 -- ---- a name that is added unless it is there
 
 and_first : (a b : Bool) → (a && b) ≡ true → a ≡ true
@@ -86,7 +90,7 @@ known_end seen xs i keys has goal l e h = sym (with_none has) ∙ ap (with_keys 
 
 -- ---- clashes by names
 
-any_none : {A : Type 0} (xs : List A) → list_any (λ _. false) xs ≡ false
+pub any_none : {A : Type 0} (xs : List A) → list_any (λ _. false) xs ≡ false
 any_none [] = refl
 any_none (x ∷ xs) = any_none xs
 

@@ -1,3 +1,6 @@
 pub mod Lists
 pub mod Known
+pub mod Clashes
+pub mod Bare
+pub mod Lookups
 pub mod SetTests

@@ -1,5 +1,5 @@
 -- Sets of names with their owners.
-use Rattle.std.specs.Prelude.{ℕ, Bool, false, ◌&&◌, ◌||◌, List, [], ◌∷◌, map}
+use Rattle.std.specs.Prelude.{ℕ, Bool, false, ◌&&◌, ◌||◌, List, [], ◌∷◌, map, if◌then◌else◌}
 use Rattle.std.specs.Str.{bytes_eq}
 use Rattle.std.specs.List.{list_any}
 use Rattle.spoc_ast.specs.Written.{Lexeme}
@@ -35,3 +35,13 @@ clash_known asks gives has (x ∷ xs) = list_any has (asks x) || clash_known ask
 -- the addresses of an interface, each as one of its network
 abbrev pub address_keys : IfaceText → List Key
 address_keys i = map (word_key i.net.text) (iface_addresses i)
+
+abbrev pub hardware_keys : IfaceText → List Key
+hardware_keys i = map (word_key []) (iface_hardware i)
+
+-- the hardware that must not stand at another interface of the router
+abbrev pub hardware_asked : IfaceText → List Key
+hardware_asked i = if i.managed then hardware_keys i else []
+
+abbrev pub tag_key : Lexeme → List Key
+tag_key tag = word_key [] tag ∷ []

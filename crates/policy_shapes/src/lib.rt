@@ -2,9 +2,11 @@
 #![tactic(auto)]
 
 mod block;
+mod clash;
 mod iface;
 mod keys;
 mod network;
+mod policy;
 mod protocol;
 mod sets;
 mod word;
