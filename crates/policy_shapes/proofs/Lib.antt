@@ -4,3 +4,4 @@ pub mod Clashes
 pub mod Bare
 pub mod Lookups
 pub mod SetTests
+pub mod FirstShape
