@@ -1,5 +1,6 @@
 -- The first declaration in which something stands that must not, in one walk.
-use Rattle.std.proofs.Common.{arith, ◌≡◌, ◌∙◌, refl, sym, ap, ℕ, zero, suc, ◌+◌, ◌<◌, Bool, true, false, cond, List, [], ◌∷◌, ◌++◌, length, filter, flat_map, take, drop, get_or, map, Some, None, Option, is_some, option_map, option_and_then, slice_get, append_assoc, append-nil, add-one, drop-cons, length-append}
+use Rattle.std.proofs.Common.{arith, ◌≡◌, ◌∙◌, refl, sym, ap, subst, ℕ, zero, suc, ◌+◌, ◌<◌, Bool, true, false, cond, List, [], ◌∷◌, ◌++◌, length, filter, flat_map, take, drop, get_or, map, Some, None, Option, is_some, option_map, option_and_then, slice_get, append_assoc, append-nil, add-one, drop-cons, length-append}
+use Rattle.std.specs.Prelude.{Result, IfOk}
 use Rattle.std.specs.List.{list_any, range_with_len}
 use Rattle.std.proofs.lemmas.Grind.{flat_map-append}
 use Rattle.spoc_base.specs.declared.place.Named.{Named}
@@ -8,9 +9,9 @@ use Rattle.spoc_ast.specs.declared.decl.Decl.{Decl}
 use Rattle.spoc_ast.specs.Seen.{decl_seen}
 use Rattle.policy_decls.specs.Names.{names_in, shown_at}
 use Rattle.policy_decls.specs.Lookup.{IfaceText, ifaces_in, declared_ifaces}
-use Rattle.policy_decls.specs.Shapes.{shape_in, shape_at, is_bad_device, is_bad_iface, is_outside, clash_with, has_address_of, has_hardware_of, is_bad_binding}
+use Rattle.policy_decls.specs.Shapes.{first_true, shape_in, shape_at, is_bad_device, is_bad_iface, is_outside, clash_with, has_hardware_of, is_bad_binding}
 use Rattle.policy_decls.specs.Faults.{name_of_decl, first_shape}
-use Rattle.policy_shapes.specs.Keys.{Key, has_key, with_keys, address_keys, clash_known}
+use Rattle.policy_shapes.specs.Keys.{Key, has_key, with_keys, address_keys}
 use Rattle.policy_shapes.specs.Rows.{shape_by, router_ifaces, decl_keys, or_rest, first_by}
 use Rattle.policy_shapes.proofs.Known.{has_appended}
 use Rattle.policy_shapes.proofs.Clashes.{addresses_clash}
@@ -18,15 +19,12 @@ use Rattle.policy_shapes.proofs.Clashes.{addresses_clash}
 -- ---- the least number of a declaration
 
 module _ (all : List DeclText) (earlier : List IfaceText) (has : Key → Bool) (known : has ≡ has_key (flat_map address_keys earlier)) where
-  by_keys : (bad : Bool) (ifaces : List IfaceText)
-      → cond bad (Some 6) (cond (list_any is_bad_iface ifaces) (Some 7) (cond (list_any (is_outside all) ifaces) (Some 8) (cond (clash_with has_address_of earlier ifaces) (Some 9) (cond (clash_with has_hardware_of [] ifaces) (Some 10) (cond (list_any is_bad_binding ifaces) (Some 11) None)))))
-      ≡ cond bad (Some 6) (cond (list_any is_bad_iface ifaces) (Some 7) (cond (list_any (is_outside all) ifaces) (Some 8) (cond (clash_known address_keys address_keys has ifaces) (Some 9) (cond (clash_with has_hardware_of [] ifaces) (Some 10) (cond (list_any is_bad_binding ifaces) (Some 11) None)))))
-  by_keys bad ifaces = ap (λ b. cond bad (Some 6) (cond (list_any is_bad_iface ifaces) (Some 7) (cond (list_any (is_outside all) ifaces) (Some 8) (cond b (Some 9) (cond (clash_with has_hardware_of [] ifaces) (Some 10) (cond (list_any is_bad_binding ifaces) (Some 11) None))))))
-      (addresses_clash earlier has known ifaces)
-
   pub shape_known : (decl : DeclText) → shape_in all earlier decl ≡ shape_by all has decl
   shape_known (NetworkDecl name desc parts) = refl
-  shape_known (RouterDecl name desc parts) = by_keys (is_bad_device parts) (router_ifaces name parts)
+  shape_known (RouterDecl name desc parts) =
+      let ifaces = router_ifaces name parts in
+      ap (λ b. first_true ((6, is_bad_device parts) ∷ (7, list_any is_bad_iface ifaces) ∷ (8, list_any (is_outside all) ifaces) ∷ (9, b) ∷ (10, clash_with has_hardware_of [] ifaces) ∷ (11, list_any is_bad_binding ifaces) ∷ []))
+      (addresses_clash earlier has known ifaces)
   shape_known (GroupDecl name desc objects) = refl
   shape_known (AreaDecl name desc parts) = refl
   shape_known (AggregateDecl name desc parts) = refl
@@ -101,3 +99,9 @@ module _ (all : List DeclText) (decls : List Decl) (i : ℕ) (d : Decl) (is : d 
   not_here now e n =
       ap (λ h. first_by all h (map decl_seen (drop (i + 1) decls))) n ∙ ap (λ o. or_rest o (decl_seen d) (first_by all (with_keys has (decl_keys (decl_seen d))) (map decl_seen (drop (i + 1) decls)))) e
       ∙ ap (first_by all has) (sym head) ∙ known
+
+pub at_last : {E : Type 0} (result : Result (Option (ℕ × Named)) E) (policy now items : List Decl) (all : List DeclText) → policy ≡ items → now ≡ items → map decl_seen items ≡ all
+    → IfOk result (λ found. found ≡ first_by (map decl_seen policy) (has_key []) (map decl_seen now)) → IfOk result (λ found. found ≡ first_shape all)
+at_last result policy now items all p n m h =
+    subst (λ y. IfOk result (λ found. found ≡ y))
+    (ap (λ l. first_by (map decl_seen l) (has_key []) (map decl_seen now)) p ∙ ap (λ l. first_by (map decl_seen items) (has_key []) (map decl_seen l)) n ∙ ap (λ l. first_by l (has_key []) l) m ∙ sym (walked all)) h
