@@ -2,14 +2,17 @@
 //! stands that must not, with the least number of that.
 #![tactic(auto)]
 
+mod aggregate;
+mod area;
 mod block;
 mod clash;
+mod group;
 mod iface;
 mod keys;
 mod network;
-mod other;
 mod policy;
 mod protocol;
+mod restriction;
 mod router;
 mod service;
 mod sets;

@@ -6,11 +6,14 @@ ghost use Rattle.policy_names.specs.Seen.{decls_of};
 ghost use Rattle.policy_shapes.specs.Keys.{has_key, with_keys};
 ghost use Rattle.policy_shapes.specs.Rows.{shape_by, decl_keys, first_by, protocol_rows, protocol_group_rows};
 
+use crate::aggregate::aggregate_shape;
+use crate::area::area_shape;
+use crate::group::group_shape;
 use crate::keys::Keys;
 use crate::network::network_shape;
-use crate::other::{aggregate_shape, area_shape, group_shape, restriction_shape};
 use crate::policy::Policy;
 use crate::protocol::{any_bad_prt, is_bad_simple};
+use crate::restriction::restriction_shape;
 use crate::router::router_shape;
 use crate::service::service_shape;
 use policy_names::NameTable;

@@ -2,7 +2,7 @@ use Rattle.std.proofs.Common.{◌∙◌, arith, map, sym}
 use Rattle.spoc_ast.specs.Seen.{port_seen, decl_seen}
 use Rattle.policy_decls.specs.Shapes.{is_unmanaged_port}
 use Rattle.policy_shapes.proofs.Lists.{any_here, any_step}
-use Rattle.policy_shapes.proofs.other.any_unmanaged.Goals as goal
+use Rattle.policy_shapes.proofs.restriction.any_unmanaged.Goals as goal
 
 pub returns-then-is_unmanaged : goal.returns-then-is_unmanaged
 returns-then-is_unmanaged c =
