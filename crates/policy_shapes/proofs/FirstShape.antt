@@ -73,7 +73,7 @@ module _ (all : List DeclText) where
       let at : slice_get all s ≡ Some d = ap (λ l. slice_get l s) a ∙ ap (slice_get (before ++ d ∷ rest)) l ∙ get_middle before d rest in
       let front : take s all ≡ before = ap (take s) a ∙ ap (λ i. take i (before ++ d ∷ rest)) l ∙ take_front before (d ∷ rest) in
       let shape : shape_at all s ≡ shape_by all has d =
-          ap (option_and_then (shape_in all (declared_ifaces (take s all)))) at ∙ ap (λ l. shape_in all (declared_ifaces l) d) front ∙ shape_known all (declared_ifaces before) has k d in
+      ap (option_and_then (shape_in all (declared_ifaces (take s all)))) at ∙ ap (λ l. shape_in all (declared_ifaces l) d) front ∙ shape_known all (declared_ifaces before) has k d in
       let next : s + 1 ≡ length (before ++ d ∷ []) = more before s l in
       let less : n ≡ length rest = omega arith in
       here s n d (shape_by all has d) (first_by all (with_keys has (decl_keys d)) rest) shape at

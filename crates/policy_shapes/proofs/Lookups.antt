@@ -154,8 +154,8 @@ module _ (decls : List DeclText) (names : List Mention) (text : List ℕ) (shown
       let same : (net : Lexeme × List NetPartText) → asked (mention NetworkName net.0) ≡ bytes_eq net.0.text text = λ net. and_true (bytes_eq text net.0.text) (bytes_eq net.0.text text) (bytes_sym text net.0.text) in
       ap (λ l. joined (option_and_then (slice_get l) number)) e
       ∙ ap (λ k. joined (option_and_then (slice_get (own_prefixes decls)) k))
-        (n ∙ ap (λ l. position asked (of_kind l NetworkName)) named ∙ ap (position asked) (all_named (λ name. same_kind name.kind NetworkName) networks_in (λ net. mention NetworkName net.0) networks_named decls)
-        ∙ sym (position_map asked (λ net. mention NetworkName net.0) rows) ∙ ap (λ p. position p rows) (λ i net. same net i))
+      (n ∙ ap (λ l. position asked (of_kind l NetworkName)) named ∙ ap (position asked) (all_named (λ name. same_kind name.kind NetworkName) networks_in (λ net. mention NetworkName net.0) networks_named decls)
+      ∙ sym (position_map asked (λ net. mention NetworkName net.0) rows) ∙ ap (λ p. position p rows) (λ i net. same net i))
       ∙ ap joined (at_place (λ net. bytes_eq net.0.text text) (λ net. own_prefix net.1) rows)
       ∙ own_given (find (λ net. bytes_eq net.0.text text) rows) ∙ ap (λ found. own_prefix (or_nothing found)) (sym (network_first decls text))
 
@@ -167,7 +167,7 @@ module _ (decls : List DeclText) (names : List Mention) (text : List ℕ) (shown
       let same : (router : Lexeme × List RoutPartText) → asked (mention RouterName router.0) ≡ bytes_eq router.0.text text = λ router. and_true (bytes_eq text router.0.text) (bytes_eq router.0.text text) (bytes_sym text router.0.text) in
       ap (λ l. unwrap_or (option_and_then (slice_get l) number) false) e
       ∙ ap (λ k. unwrap_or (option_and_then (slice_get (managed_flags decls)) k) false)
-        (n ∙ ap (λ l. position asked (of_kind l RouterName)) named ∙ ap (position asked) (all_named (λ name. same_kind name.kind RouterName) routers_in (λ router. mention RouterName router.0) routers_named decls)
-        ∙ sym (position_map asked (λ router. mention RouterName router.0) rows) ∙ ap (λ p. position p rows) (λ i router. same router i))
+      (n ∙ ap (λ l. position asked (of_kind l RouterName)) named ∙ ap (position asked) (all_named (λ name. same_kind name.kind RouterName) routers_in (λ router. mention RouterName router.0) routers_named decls)
+      ∙ sym (position_map asked (λ router. mention RouterName router.0) rows) ∙ ap (λ p. position p rows) (λ i router. same router i))
       ∙ ap (λ found. unwrap_or found false) (at_place (λ router. bytes_eq router.0.text text) (λ router. is_managed_router router.1) rows)
       ∙ managed_given (find (λ router. bytes_eq router.0.text text) rows) ∙ ap (λ found. is_managed_router (or_nothing found)) (sym (router_first decls text))

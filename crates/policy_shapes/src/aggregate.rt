@@ -33,10 +33,7 @@ fn prefixes<'a>(alloc: Global, parts: &[AnyPart<'a>]) -> Result<Vec<Word<'a>>, N
 }
 
 /// The least number of what must not stand in an aggregate of these parts and does, 4 or 14.
-pub(crate) fn aggregate_shape(
-    alloc: Global,
-    parts: &[AnyPart<'_>],
-) -> Result<Option<u8>, NoMemory>
+pub(crate) fn aggregate_shape(alloc: Global, parts: &[AnyPart<'_>]) -> Result<Option<u8>, NoMemory>
     ensures { IfOk result (λ shape. shape ≡ aggregate_rows (map any_part_seen parts.now)) }
 {
     let prefixes = prefixes(alloc, parts)?;

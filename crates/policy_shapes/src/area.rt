@@ -22,10 +22,7 @@ fn anchors<'a>(alloc: Global, parts: &[AreaPart<'a>]) -> Result<Vec<Word<'a>>, N
     Ok(found)
 }
 
-fn borders<'a>(
-    alloc: Global,
-    parts: &[AreaPart<'a>],
-) -> Result<Vec<&'a [PortName<'a>]>, NoMemory>
+fn borders<'a>(alloc: Global, parts: &[AreaPart<'a>]) -> Result<Vec<&'a [PortName<'a>]>, NoMemory>
     ensures { IfOk result (λ found. map (λ ports. map port_seen ports.now) found.items ≡ flat_map shapes.borders_in (map area_part_seen parts.now)) }
 {
     let mut found = Vec::new(alloc);

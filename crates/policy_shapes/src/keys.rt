@@ -70,11 +70,7 @@ impl<'a> Keys<'a> {
     }
 
     /// Adds the words, as names of this owner.
-    pub(crate) fn add_all(
-        &mut self,
-        owner: &'a [u8],
-        words: &[Word<'a>],
-    ) -> Result<(), NoMemory>
+    pub(crate) fn add_all(&mut self, owner: &'a [u8], words: &[Word<'a>]) -> Result<(), NoMemory>
         ensures { OnOk result (has_key self.new ≡ with_keys (has_key self.old) (map (word_key owner.now) (map word_seen words.now))) }
     {
         for word in words {

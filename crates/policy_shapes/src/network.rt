@@ -103,10 +103,7 @@ fn has_bad_nat(parts: &[NetPart<'_>]) -> bool
 }
 
 // The parts of each host of the network.
-fn hosts<'a>(
-    alloc: Global,
-    parts: &[NetPart<'a>],
-) -> Result<Vec<&'a [HostPart<'a>]>, NoMemory>
+fn hosts<'a>(alloc: Global, parts: &[NetPart<'a>]) -> Result<Vec<&'a [HostPart<'a>]>, NoMemory>
     ensures { IfOk result (λ found. map (λ host. map host_part_seen host.now) found.items ≡ flat_map shapes.hosts_in (map net_part_seen parts.now)) }
 {
     let mut found = Vec::new(alloc);

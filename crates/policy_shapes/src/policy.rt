@@ -81,7 +81,10 @@ impl<'t, 'a> Policy<'t, 'a> {
     pub(crate) fn is_managed(&self, router: &[u8]) -> bool
         ensures { result ≡ plain.is_managed_router (plain.router_parts (map decl_seen self.now) router.now) }
     {
-        flag_at(&self.managed, self.table.number(NameKind::Router, b"", router))
+        flag_at(
+            &self.managed,
+            self.table.number(NameKind::Router, b"", router),
+        )
     }
 
     /// Whether the router of an interface isn't managed.
@@ -210,11 +213,7 @@ fn is_bare(alloc: Global, iface: &Iface<'_>) -> Result<bool, NoMemory>
     Ok(!iface.managed && addresses.is_empty())
 }
 
-fn add_if_bare<'a>(
-    alloc: Global,
-    iface: &Iface<'a>,
-    found: &mut Keys<'a>,
-) -> Result<(), NoMemory>
+fn add_if_bare<'a>(alloc: Global, iface: &Iface<'a>, found: &mut Keys<'a>) -> Result<(), NoMemory>
     ensures { OnOk result (has_key found.new ≡ with_keys (has_key found.old) (bare_keys (iface_seen iface.now))) }
 {
     if !is_bare(alloc, iface)? {

@@ -48,10 +48,7 @@ fn differ(ports: &[PortName<'_>]) -> bool
 
 /// 12 where a restriction has one of these interfaces that is of an unmanaged router, or fewer
 /// than two different ones.
-pub(crate) fn restriction_shape(
-    policy: &Policy<'_, '_>,
-    ports: &[PortName<'_>],
-) -> Option<u8>
+pub(crate) fn restriction_shape(policy: &Policy<'_, '_>, ports: &[PortName<'_>]) -> Option<u8>
     ensures { result ≡ restriction_rows (map decl_seen policy.now) (map port_seen ports.now) }
 {
     if any_unmanaged(policy, ports) || !differ(ports) {

@@ -176,11 +176,7 @@ fn leaves_network(own: Option<Block>, words: &[Word<'_>]) -> bool
 }
 
 // Whether an interface's address is outside its network.
-fn is_outside(
-    alloc: Global,
-    policy: &Policy<'_, '_>,
-    iface: &Iface<'_>,
-) -> Result<bool, NoMemory>
+fn is_outside(alloc: Global, policy: &Policy<'_, '_>, iface: &Iface<'_>) -> Result<bool, NoMemory>
     ensures { IfOk result (λ bad. bad ≡ shapes.is_outside (map decl_seen policy.now) (iface_seen iface.now)) }
 {
     let addresses = iface.addresses(alloc)?;

@@ -66,11 +66,7 @@ fn rules_name_bare(policy: &Policy<'_, '_>, rules: &[RuleTree<'_>]) -> bool
 
 // Whether one of the service's sets names an interface of an unmanaged router without an address.
 #[tactic(auto, using(crate::proofs::SetTests::name_all))]
-fn sets_name_bare(
-    policy: &Policy<'_, '_>,
-    user: &SetTree<'_>,
-    rules: &[RuleTree<'_>],
-) -> bool
+fn sets_name_bare(policy: &Policy<'_, '_>, user: &SetTree<'_>, rules: &[RuleTree<'_>]) -> bool
     ensures { result ≡ shapes.name_bare_port (map decl_seen policy.now) (set_seen user.now ∷ flat_map shapes.sets_in_rule (map rule_seen rules.now)) }
 {
     names_bare(policy, user) || rules_name_bare(policy, rules)
