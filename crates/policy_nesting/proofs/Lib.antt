@@ -1,0 +1,4 @@
+pub mod Tests
+pub mod Leads
+pub mod Chains
+pub mod Marked

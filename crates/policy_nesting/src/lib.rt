@@ -1,0 +1,6 @@
+//! Groups that name groups, and protocol groups that name protocol groups: the first that reaches
+//! itself, and whether they nest too deep.
+#![tactic(auto)]
+
+mod graph;
+mod search;
