@@ -2,3 +2,4 @@ pub mod Tests
 pub mod Leads
 pub mod Chains
 pub mod Marked
+pub mod Apart
