@@ -13,9 +13,9 @@ use Rattle.policy_nesting.proofs.Tests.{and_first, and_second, both, or_first, o
 -- ---- two mentions of one name
 
 pub record Same (a b : Mention) : Type 0 where
-  kind : number_of_kind a.kind ≡ number_of_kind b.kind
-  owner : a.owner ≡ b.owner
-  text : a.text ≡ b.text
+  pub kind : number_of_kind a.kind ≡ number_of_kind b.kind
+  pub owner : a.owner ≡ b.owner
+  pub text : a.text ≡ b.text
 
 pub same_of : (a b : Mention) → same_name a b ≡ true → Same a b
 same_of a b e =
@@ -53,11 +53,11 @@ abbrev pub Apart : List Mention → Type 0
 Apart [] = Unit {0}
 Apart (x ∷ xs) = (list_any (same_name x) xs ≡ false) × Apart xs
 
-or_none : (a b : Bool) → (a || b) ≡ false → (a ≡ false) × (b ≡ false)
+pub or_none : (a b : Bool) → (a || b) ≡ false → (a ≡ false) × (b ≡ false)
 or_none true b e = absurd (cc)
 or_none false b e = (refl, e)
 
-both_none : (a b : Bool) → a ≡ false → b ≡ false → (a || b) ≡ false
+pub both_none : (a b : Bool) → a ≡ false → b ≡ false → (a || b) ≡ false
 both_none true b e h = e
 both_none false b e h = h
 

@@ -2,6 +2,9 @@
 //! itself, and whether they nest too deep.
 #![tactic(auto)]
 
+mod circle;
 mod graph;
+mod group_graph;
 mod nodes;
 mod search;
+

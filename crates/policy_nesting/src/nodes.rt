@@ -2,12 +2,13 @@ ghost use Rattle.std.specs.Prelude.{◌≡◌, true, ◌∷◌, ◌++◌, [], ma
 ghost use Rattle.spoc_ast.specs.Seen.{file_seen, decl_seen};
 ghost use Rattle.policy_decls.specs.Names as plain;
 ghost use Rattle.policy_decls.specs.Said.{number_among};
-ghost use Rattle.policy_names.specs.Seen.{kind_seen, mention_seen};
+ghost use Rattle.policy_names.specs.Seen.{kind_seen, mention_seen, decls_of, GrowsBy};
+ghost use Rattle.policy_decls.specs.Nesting.{is_nesting, nesting_names};
 ghost use Rattle.policy_names.specs.Tables.{of_kind};
 ghost use Rattle.policy_nesting.specs.Nodes.{kind_of, is_node, used_of};
 
-use policy_names::{Mention, NameKind, NameTable, add_uses};
-use spoc_ast::Decl;
+use policy_names::{Mention, NameKind, NameTable, add_names, add_uses};
+use spoc_ast::{Decl, File};
 use spoc_base::{NoMemory, Row};
 use std::alloc::Global;
 
@@ -39,6 +40,38 @@ pub(crate) fn declares(nesting: Nesting, decl: &Decl<'_>) -> bool
         Decl::ProtocolGroup { .. } => matches!(nesting, Nesting::Protocols),
         _ => false,
     }
+}
+
+/// The groups and protocol groups of a policy, in the order of their declarations.
+pub(crate) fn nodes<'a>(alloc: Global, files: &[File<'a>]) -> Result<Vec<Mention<'a>>, NoMemory>
+    ensures { IfOk result (λ names. map mention_seen names.items ≡ nesting_names (decls_of files.now)) }
+{
+    let mut found = Vec::new(alloc);
+    for file in files {
+        add_nodes(file, &mut found)?;
+    }
+    Ok(found)
+}
+
+fn add_nodes<'a>(file: &File<'a>, found: &mut Vec<Mention<'a>>) -> Result<(), NoMemory>
+    ensures { OnOk result (GrowsBy (nesting_names (file_seen file.now)) found.old.items found.new.items) }
+{
+    for decl in file.decls {
+        add_node(decl, found)?;
+    }
+    Ok(())
+}
+
+fn add_node<'a>(decl: &Decl<'a>, found: &mut Vec<Mention<'a>>) -> Result<(), NoMemory>
+    ensures { OnOk result (GrowsBy (filter is_nesting (plain.names_in (decl_seen decl.now))) found.old.items found.new.items) }
+{
+    if declares(Nesting::Objects, decl) {
+        return add_names(decl, found);
+    }
+    if declares(Nesting::Protocols, decl) {
+        return add_names(decl, found);
+    }
+    Ok(())
 }
 
 /// The numbers of the groups of the kind that a declaration names, as they stand.
