@@ -6,3 +6,5 @@ pub mod Apart
 pub mod RowLaws
 pub mod Reaching
 pub mod Circles
+pub mod Walk
+pub mod Deep

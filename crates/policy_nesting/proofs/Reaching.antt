@@ -40,7 +40,7 @@ module _ {A : Type 0} (p f : A → Bool) where
   still true x xs e h = both (p x) (list_all p xs) e h
   still false x xs e h = h
 
-  all_filter_still : (xs : List A) → list_all p xs ≡ true → list_all p (filter f xs) ≡ true
+  pub all_filter_still : (xs : List A) → list_all p xs ≡ true → list_all p (filter f xs) ≡ true
   all_filter_still [] e = e
   all_filter_still (x ∷ xs) e = still (f x) x (filter f xs) (and_first (p x) (list_all p xs) e) (all_filter_still xs (and_second (p x) (list_all p xs) e))
 
@@ -48,7 +48,7 @@ module _ {A : Type 0} (p f : A → Bool) where
   kept true x xs e h = both (f x) (list_all f xs) e h
   kept false x xs e h = h
 
-  all_filter : (xs : List A) → list_all f (filter f xs) ≡ true
+  pub all_filter : (xs : List A) → list_all f (filter f xs) ≡ true
   all_filter [] = refl
   all_filter (x ∷ xs) = kept (f x) x (filter f xs) refl (all_filter xs)
 
@@ -65,7 +65,7 @@ module _ {A : Type 0} (p f : A → Bool) where
   all_not [] e = refl
   all_not (x ∷ xs) e = let parts = none_left (f x) x (filter f xs) refl e in both (not (f x)) (list_all (λ y. not (f y)) xs) parts.0 (all_not xs parts.1)
 
-all_index : {A : Type 0} (p : A → Bool) (xs : List A) (i : ℕ) (d : A) → list_all p xs ≡ true → i < length xs → p (get_or xs i d) ≡ true
+pub all_index : {A : Type 0} (p : A → Bool) (xs : List A) (i : ℕ) (d : A) → list_all p xs ≡ true → i < length xs → p (get_or xs i d) ≡ true
 all_index p [] i d e l = absurd (omega arith)
 all_index p (x ∷ xs) zero d e l = and_first (p x) (list_all p xs) e
 all_index p (x ∷ xs) (suc i) d e l = all_index p xs i d (and_second (p x) (list_all p xs) e) (omega arith)

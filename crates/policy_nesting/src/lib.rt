@@ -2,9 +2,13 @@
 //! itself, and whether they nest too deep.
 #![tactic(auto)]
 
-mod circle;
+pub mod circle;
+pub mod depth;
 mod graph;
 mod group_graph;
 mod nodes;
 mod search;
+
+pub use circle::first_on_circle;
+pub use depth::nest_too_deep;
 
