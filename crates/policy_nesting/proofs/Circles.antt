@@ -66,7 +66,7 @@ module _ (n : Nesting) (decls : List DeclText) (names : List Mention) (same : na
   pub circle_at : (found : Option ℕ) (i : ℕ) (on : Bool) (rows : List (List ℕ)) → rows ≡ nodes_of decls n → found ≡ position (names_it g) (numbered names g.kind) → found ≡ Some i → ((m : ℕ) → length rows ≤ m → on ≡ leads rows m i i) → on ≡ is_on_circle decls g
   circle_at found i on rows r e some h =
       at_place (λ j at number within s.
-          let here : i ≡ j = same_Some i j (sym some ∙ its_position found e ∙ at) in
-          let few : length rows ≤ length decls = omega (arith, ap length r, rows_long decls n (apart_of (declared_names decls) named.once) named.known, nodes_few n decls) in
-          h (length decls) few ∙ ap (λ l. leads l (length decls) i i) r ∙ ap (λ k. leads (nodes_of decls n) (length decls) k k) here
-          ∙ sym (circle_is decls n (apart_of (declared_names decls) named.once) named.known (length decls) g g j within s))
+      let here : i ≡ j = same_Some i j (sym some ∙ its_position found e ∙ at) in
+      let few : length rows ≤ length decls = omega (arith, ap length r, rows_long decls n (apart_of (declared_names decls) named.once) named.known, nodes_few n decls) in
+      h (length decls) few ∙ ap (λ l. leads l (length decls) i i) r ∙ ap (λ k. leads (nodes_of decls n) (length decls) k k) here
+      ∙ sym (circle_is decls n (apart_of (declared_names decls) named.once) named.known (length decls) g g j within s))

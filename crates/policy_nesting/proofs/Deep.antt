@@ -35,8 +35,8 @@ module _ (n : Nesting) (decls : List DeclText) (named : AreNamed decls) (depth :
   flag_is : (k : ℕ) → k < length groups → flag_at flags k ≡ get_or (map (nests decls depth) groups) k false
   flag_is k l =
       with_item groups k l (λ d.
-          graph.deep.each k (omega (arith, all_rows)) ∙ ap (λ r. chains r depth k) graph.nodes
-          ∙ sym (nest_is decls n (apart_of (declared_names decls) named.once) named.known depth (get_or groups k d) d k l (record { kind = refl; owner = refl; text = refl })) ∙ sym (get_or-map (nests decls depth) groups k d false l))
+      graph.deep.each k (omega (arith, all_rows)) ∙ ap (λ r. chains r depth k) graph.nodes
+      ∙ sym (nest_is decls n (apart_of (declared_names decls) named.once) named.known depth (get_or groups k d) d k l (record { kind = refl; owner = refl; text = refl })) ∙ sym (get_or-map (nests decls depth) groups k d false l))
 
   pub any_deep : list_any (λ flag. flag) flags ≡ list_any (nests decls depth) groups
   any_deep =

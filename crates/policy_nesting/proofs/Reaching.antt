@@ -127,7 +127,7 @@ module _ (decls : List DeclText) (n : Nesting) (apart : Apart (declared_names de
       all_flat known (λ decl. filter (λ used. same_kind used.kind g.kind) (uses_in decl)) (filter (λ decl. list_any (same_name g) (names_in decl)) decls)
       ∙ all_filter_still (λ decl. list_all known (filter (λ used. same_kind used.kind g.kind) (uses_in decl))) (λ decl. list_any (same_name g) (names_in decl)) decls
       (all_then (λ decl. list_all known (uses_in decl)) (λ decl. list_all known (filter (λ used. same_kind used.kind g.kind) (uses_in decl)))
-       (λ decl e. all_filter_still known (λ used. same_kind used.kind g.kind) (uses_in decl) e) decls (sym (all_flat known uses_in decls) ∙ all_known))
+      (λ decl e. all_filter_still known (λ used. same_kind used.kind g.kind) (uses_in decl) e) decls (sym (all_flat known uses_in decls) ∙ all_known))
 
   all_true : {A : Type 0} (p : A → Bool) → ((x : A) → p x ≡ true) → (xs : List A) → list_all p xs ≡ true
   all_true p h [] = refl
@@ -172,6 +172,7 @@ module _ (decls : List DeclText) (n : Nesting) (apart : Apart (declared_names de
     where
       there : is_some (position (names_it used) groups) ≡ true
       there = has_position (names_it used) groups ∙ any-filter_same (names_it used) own_kind true (own_named used own) names ∙ e
+
       by_position : (o : Option ℕ) → position (names_it used) groups ≡ o → P
       by_position None g = absurd (false≢true (sym (ap is_some g) ∙ there))
       by_position (Some i) g =
@@ -206,7 +207,7 @@ module _ (decls : List DeclText) (n : Nesting) (apart : Apart (declared_names de
   reach_is (suc m) g d i j l k s =
       any_same (λ used. same_name used (get_or groups j d) || reaches decls m used (get_or groups j d)) (λ used. eqb (number_among groups used) j || leads rows m (number_among groups used) j) (λ used. known used && own_kind used)
       (λ used e. place used d (and_first (known used) (own_kind used) e) (and_second (known used) (own_kind used) e) (λ p at number within same.
-           ap (λ b. b || reaches decls m used (get_or groups j d)) (same_place used d p j within k same) ∙ ap (λ b. eqb p j || b) (reach_is m used d p j within k same) ∙ ap (λ q. eqb q j || leads rows m q j) (sym number)))
+      ap (λ b. b || reaches decls m used (get_or groups j d)) (same_place used d p j within k same) ∙ ap (λ b. eqb p j || b) (reach_is m used d p j within k same) ∙ ap (λ q. eqb q j || leads rows m q j) (sym number)))
       (nested_in decls g) (nested_own g i d l s)
       ∙ list_any_map (λ x. eqb x j || leads rows m x j) (number_among groups) (nested_in decls g) ∙ ap (list_any (λ x. eqb x j || leads rows m x j)) (sym (row_is g i d l s))
 

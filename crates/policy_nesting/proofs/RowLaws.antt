@@ -120,8 +120,8 @@ module _ (n : Nesting) (all : List DeclText) (apart : Apart (declared_names all)
       ap (λ b. cond b (map (number_among (of_kind (declared_names all) (kind_of n))) (used_of n decl) ∷ []) []) s ∙ sym (ap (map numbers_at) (not_node n decl s))
   own_row before after decl true s e =
       by_node n decl s (λ g h own kind.
-          ap (λ b. cond b (map (number_among (of_kind (declared_names all) (kind_of n))) (used_of n decl) ∷ []) []) s
-          ∙ ap (λ l. map (number_among (of_kind (declared_names all) (kind_of n))) l ∷ []) (sym (nested_here before after decl g e h kind)) ∙ sym (ap (map numbers_at) own))
+      ap (λ b. cond b (map (number_among (of_kind (declared_names all) (kind_of n))) (used_of n decl) ∷ []) []) s
+      ∙ ap (λ l. map (number_among (of_kind (declared_names all) (kind_of n))) l ∷ []) (sym (nested_here before after decl g e h kind)) ∙ sym (ap (map numbers_at) own))
 
   rows_here : (before rest : List DeclText) → all ≡ before ++ rest → flat_map (row_in (declared_names all) n) rest ≡ map numbers_at (of_kind (declared_names rest) (kind_of n))
   rows_here before [] e = refl

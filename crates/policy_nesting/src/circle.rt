@@ -27,7 +27,11 @@ use std::alloc::Global;
 ///
 /// Time is linear in the policy where groups nest less deep than they may; where they don't, the
 /// policy is refused, and each group where so long a chain begins is searched for a way back.
-pub fn first_on_circle(alloc: Global, table: &NameTable<'_>, files: &[File<'_>]) -> Result<Option<Named>, NoMemory>
+pub fn first_on_circle(
+    alloc: Global,
+    table: &NameTable<'_>,
+    files: &[File<'_>],
+) -> Result<Option<Named>, NoMemory>
     requires table { table.now ≡ declared_names (decls_of files.now) }
     requires once { name_twice (decls_of files.now) ≡ None }
     requires known { name_unknown (decls_of files.now) ≡ None }
@@ -38,7 +42,12 @@ pub fn first_on_circle(alloc: Global, table: &NameTable<'_>, files: &[File<'_>])
 
 // The first group that lies on a circle; only those are searched where a chain of `depth` groups
 // begins.
-fn first_of(alloc: Global, table: &NameTable<'_>, depth: u32, files: &[File<'_>]) -> Result<Option<Named>, NoMemory>
+fn first_of(
+    alloc: Global,
+    table: &NameTable<'_>,
+    depth: u32,
+    files: &[File<'_>],
+) -> Result<Option<Named>, NoMemory>
     requires depth { 0 < depth }
     requires table { table.now ≡ declared_names (decls_of files.now) }
     requires named { AreNamed (decls_of files.now) }
@@ -56,7 +65,13 @@ fn first_of(alloc: Global, table: &NameTable<'_>, depth: u32, files: &[File<'_>]
 }
 
 // Whether a group or protocol group lies on a circle, by the two graphs.
-fn on_circle(alloc: Global, table: &NameTable<'_>, objects: &Graph, protocols: &Graph, node: &Mention<'_>) -> Result<bool, NoMemory>
+fn on_circle(
+    alloc: Global,
+    table: &NameTable<'_>,
+    objects: &Graph,
+    protocols: &Graph,
+    node: &Mention<'_>,
+) -> Result<bool, NoMemory>
     requires objects { AreNodes objects.now.rows.items }
     requires all_objects { length objects.now.rows.items ≡ length (of_kind table.now GroupName) }
     requires protocols { AreNodes protocols.now.rows.items }
@@ -71,7 +86,12 @@ fn on_circle(alloc: Global, table: &NameTable<'_>, objects: &Graph, protocols: &
 }
 
 // Whether a group lies on a circle, by the graph of the groups of its kind.
-fn lies_on_circle(alloc: Global, table: &NameTable<'_>, graph: &Graph, node: &Mention<'_>) -> Result<bool, NoMemory>
+fn lies_on_circle(
+    alloc: Global,
+    table: &NameTable<'_>,
+    graph: &Graph,
+    node: &Mention<'_>,
+) -> Result<bool, NoMemory>
     requires nodes { AreNodes graph.now.rows.items }
     requires long { length graph.now.rows.items ≡ length (numbered table.now (kind_seen node.now.kind)) }
     ensures { IfOk result (λ on. (decls : List DeclText) (nesting : Nesting) (depth : ℕ) → table.now ≡ declared_names decls → AreNamed decls → IsGraph decls nesting depth graph.now.rows.items graph.now.deep.items → kind_seen node.now.kind ≡ kind_of nesting → list_any (names_it (mention_seen node.now)) table.now ≡ true → on ≡ is_on_circle decls (mention_seen node.now)) }

@@ -19,7 +19,11 @@ pub(crate) const TOO_DEEP: u32 = 65;
 
 /// Whether there are 65 groups, or 65 protocol groups, of which each names the next. An error comes
 /// from want of memory alone.
-pub fn nest_too_deep(alloc: Global, table: &NameTable<'_>, files: &[File<'_>]) -> Result<bool, NoMemory>
+pub fn nest_too_deep(
+    alloc: Global,
+    table: &NameTable<'_>,
+    files: &[File<'_>],
+) -> Result<bool, NoMemory>
     requires table { table.now ≡ declared_names (decls_of files.now) }
     requires once { name_twice (decls_of files.now) ≡ None }
     requires known { name_unknown (decls_of files.now) ≡ None }
@@ -29,7 +33,12 @@ pub fn nest_too_deep(alloc: Global, table: &NameTable<'_>, files: &[File<'_>]) -
 }
 
 // Whether so many groups, or protocol groups, nest.
-fn nest_deep(alloc: Global, table: &NameTable<'_>, depth: u32, files: &[File<'_>]) -> Result<bool, NoMemory>
+fn nest_deep(
+    alloc: Global,
+    table: &NameTable<'_>,
+    depth: u32,
+    files: &[File<'_>],
+) -> Result<bool, NoMemory>
     requires depth { 0 < depth }
     requires table { table.now ≡ declared_names (decls_of files.now) }
     requires named { AreNamed (decls_of files.now) }

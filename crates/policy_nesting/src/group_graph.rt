@@ -23,7 +23,13 @@ pub(crate) struct Graph {
 }
 
 /// The graph of the groups of the kind, with chains of `depth` nodes.
-pub(crate) fn graph_of(alloc: Global, table: &NameTable<'_>, nesting: Nesting, depth: u32, files: &[File<'_>]) -> Result<Graph, NoMemory>
+pub(crate) fn graph_of(
+    alloc: Global,
+    table: &NameTable<'_>,
+    nesting: Nesting,
+    depth: u32,
+    files: &[File<'_>],
+) -> Result<Graph, NoMemory>
     requires depth { 0 < depth }
     requires table { table.now ≡ declared_names (decls_of files.now) }
     requires named { AreNamed (decls_of files.now) }
@@ -36,7 +42,12 @@ pub(crate) fn graph_of(alloc: Global, table: &NameTable<'_>, nesting: Nesting, d
     Ok(Graph { rows, deep })
 }
 
-fn rows_of(alloc: Global, table: &NameTable<'_>, nesting: Nesting, files: &[File<'_>]) -> Result<Vec<Row<u32>>, NoMemory>
+fn rows_of(
+    alloc: Global,
+    table: &NameTable<'_>,
+    nesting: Nesting,
+    files: &[File<'_>],
+) -> Result<Vec<Row<u32>>, NoMemory>
     requires table { table.now ≡ declared_names (decls_of files.now) }
     requires named { AreNamed (decls_of files.now) }
     ensures rows { IfOk result (λ rows. rows.items ≡ nodes_of (decls_of files.now) nesting) }
@@ -49,7 +60,13 @@ fn rows_of(alloc: Global, table: &NameTable<'_>, nesting: Nesting, files: &[File
     Ok(rows)
 }
 
-fn add_rows(alloc: Global, table: &NameTable<'_>, nesting: Nesting, file: &File<'_>, rows: &mut Vec<Row<u32>>) -> Result<(), NoMemory>
+fn add_rows(
+    alloc: Global,
+    table: &NameTable<'_>,
+    nesting: Nesting,
+    file: &File<'_>,
+    rows: &mut Vec<Row<u32>>,
+) -> Result<(), NoMemory>
     ensures { OnOk result (rows.new.items ≡ rows.old.items ++ flat_map (row_in table.now nesting) (file_seen file.now)) }
 {
     for decl in file.decls {
@@ -58,7 +75,13 @@ fn add_rows(alloc: Global, table: &NameTable<'_>, nesting: Nesting, file: &File<
     Ok(())
 }
 
-fn add_row(alloc: Global, table: &NameTable<'_>, nesting: Nesting, decl: &Decl<'_>, rows: &mut Vec<Row<u32>>) -> Result<(), NoMemory>
+fn add_row(
+    alloc: Global,
+    table: &NameTable<'_>,
+    nesting: Nesting,
+    decl: &Decl<'_>,
+    rows: &mut Vec<Row<u32>>,
+) -> Result<(), NoMemory>
     ensures { OnOk result (rows.new.items ≡ rows.old.items ++ row_in table.now nesting (decl_seen decl.now)) }
 {
     if declares(nesting, decl) {

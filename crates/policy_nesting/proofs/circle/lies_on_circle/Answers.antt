@@ -15,7 +15,7 @@ pub returns-in-Some : goal.returns-in-Some
 returns-in-Some c =
     let m = mention_seen c.args.node.now in
     IfOk-weaker c.returns_to.result _ _ (λ on h decls n depth same named g kind known.
-        circle_at n decls c.args.table.now same named m kind known (Some c.in-Some.number) c.in-Some.number on c.args.graph.now.rows.items g.nodes (c.in-Some.ensures m.shown) refl (λ k l. h depth k g.deep l)) c.returns_to.ensures
+    circle_at n decls c.args.table.now same named m kind known (Some c.in-Some.number) c.in-Some.number on c.args.graph.now.rows.items g.nodes (c.in-Some.ensures m.shown) refl (λ k l. h depth k g.deep l)) c.returns_to.ensures
 
 pub returns-in-None : goal.returns-in-None
 returns-in-None c = λ decls n depth same named g kind known.
