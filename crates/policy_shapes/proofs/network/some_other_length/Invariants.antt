@@ -1,0 +1,9 @@
+use Rattle.std.proofs.Common.{◌≡◌, ◌++◌, map, flat_map, drop, not, nat_lt}
+use Rattle.std.specs.List.{list_any}
+use Rattle.spoc_ast.specs.Seen.{word_seen, net_part_seen, nat_part_seen, host_part_seen}
+use Rattle.policy_shapes.specs.Seen.{block_seen}
+use Rattle.policy_shapes.specs.Rows.{has_bad_nat, other_length}
+use Rattle.policy_shapes.proofs.network.some_other_length.Given as goal
+
+abbrev pub invariant-loop-word : goal.invariant-loop-word
+invariant-loop-word l = list_any (other_length (block_seen l.own)) (map word_seen (drop l.word-index l.words)) ≡ list_any (other_length (block_seen l.own)) (map word_seen l.words)

@@ -1,0 +1,12 @@
+use Rattle.std.proofs.Common.{arith, flat_map, refl}
+use Rattle.policy_shapes.specs.Seen.{iface_seen}
+use Rattle.policy_shapes.specs.Policy.{bare_keys}
+use Rattle.policy_shapes.proofs.Known.{known_step, known_end}
+use Rattle.policy_shapes.proofs.policy.add_all_bare.Goals as goal
+
+pub loop-iface-preserved : goal.loop-iface-preserved
+loop-iface-preserved c =
+    known_step iface_seen c.args.ifaces.now c.loop-iface.iface-index _ (omega arith) (flat_map bare_keys) _ _ _ _ refl c.in_ok-add_if_bare.ensures c.loop-iface.invariant
+
+pub returns : goal.returns
+returns c = known_end iface_seen c.args.ifaces.now c.loop-iface.iface-index (flat_map bare_keys) _ _ (omega arith) refl c.loop-iface.invariant

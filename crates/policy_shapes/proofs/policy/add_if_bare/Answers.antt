@@ -1,0 +1,7 @@
+use Rattle.std.proofs.Common.{sym}
+use Rattle.policy_shapes.specs.Seen.{iface_seen}
+use Rattle.policy_shapes.proofs.Bare.{not_bare}
+use Rattle.policy_shapes.proofs.policy.add_if_bare.Goals as goal
+
+pub returns-then-not-branch : goal.returns-then-not-branch
+returns-then-not-branch c = not_bare (iface_seen c.args.iface.now) _ _ (sym c.in_ok-is_bare.ensures) c.if-not-branch.true

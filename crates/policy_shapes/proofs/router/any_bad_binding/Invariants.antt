@@ -1,0 +1,8 @@
+use Rattle.std.proofs.Common.{◌≡◌, ◌+◌, ◌≤◌, ◌++◌, [], length, filter, map, flat_map, drop}
+use Rattle.std.specs.List.{list_any}
+use Rattle.policy_shapes.specs.Seen.{block_seen, iface_seen}
+use Rattle.policy_decls.specs.Shapes as shapes
+use Rattle.policy_shapes.proofs.router.any_bad_binding.Given as goal
+
+abbrev pub invariant-loop-iface : goal.invariant-loop-iface
+invariant-loop-iface l = list_any shapes.is_bad_binding (map iface_seen (drop l.iface-index l.ifaces)) ≡ list_any shapes.is_bad_binding (map iface_seen l.ifaces)
