@@ -17,8 +17,6 @@ mod router;
 mod service;
 mod sets;
 pub mod shapes;
-#[cfg(test)]
-mod tests;
 mod word;
 
 pub use shapes::first_shape;
