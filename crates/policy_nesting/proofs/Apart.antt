@@ -1,14 +1,13 @@
 -- Names of which no two are the same.
-use Rattle.std.proofs.Common.{arith, ◌≡◌, ◌∙◌, refl, sym, ap, subst, ℕ, zero, suc, ◌+◌, ◌<◌, ◌≤◌, Bool, true, false, not, ◌&&◌, ◌||◌, cond, eqb, List, [], ◌∷◌, ◌++◌, length, map, filter, take, get_or, slice_get, Option, Some, None, option_map, option_and_then, append-nil, append_assoc, length-append}
+use Rattle.std.proofs.Common.{arith, ◌≡◌, ◌∙◌, refl, sym, ap, subst, ℕ, zero, suc, ◌+◌, ◌<◌, Bool, true, false, ◌&&◌, ◌||◌, cond, eqb, List, [], ◌∷◌, ◌++◌, length, filter, take, get_or, slice_get, Option, Some, None, option_and_then, append-nil, append_assoc, length-append}
 use Rattle.std.specs.Str.{bytes_eq}
-use Rattle.std.specs.List.{list_any, list_all, range_with_len}
+use Rattle.std.specs.List.{list_any, range_with_len}
 use Rattle.std.proofs.lemmas.List.Folds.{list_any-append}
 use Rattle.std.proofs.lemmas.Slice.Eq.{bytes_eq-Decides}
-use Rattle.std.proofs.lemmas.Bool.Decides.{nat_tests}
 use Rattle.policy_decls.specs.Names.{Mention, number_of_kind, same_kind, same_name, is_again, first_below, shown_at}
 use Rattle.policy_names.specs.Tables.{twice_among}
 use Rattle.policy_names.proofs.Twice.{again_at}
-use Rattle.policy_nesting.proofs.Tests.{and_first, and_second, both, or_first, or_second, either, same_number, own_number}
+use Rattle.policy_nesting.proofs.Testing.{and_first, and_second, both, or_first, or_second, same_number, own_number}
 
 -- ---- two mentions of one name
 

@@ -3,7 +3,7 @@ use Rattle.std.proofs.Common.{arith, ◌≡◌, ◌∙◌, refl, ap, ℕ, zero, 
 use Rattle.std.specs.List.{list_any}
 use Rattle.std.proofs.lemmas.List.{length-map, get_or-map, length-replicate, get_or-replicate}
 use Rattle.policy_nesting.specs.Graph.{row_at, leads, chains, AreNodes, flag_at, AreChains}
-use Rattle.policy_nesting.proofs.Tests.{either, same_number, below, any_then, any_same}
+use Rattle.policy_nesting.proofs.Testing.{either, same_number, below, any_then, any_same}
 
 module _ (rows : List (List ℕ)) where
   pub chains_less : (n a : ℕ) → chains rows (suc n) a ≡ true → chains rows n a ≡ true

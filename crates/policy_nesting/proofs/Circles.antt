@@ -12,7 +12,7 @@ use Rattle.policy_nesting.specs.declared.nodes.Nesting.{Nesting}
 use Rattle.policy_nesting.specs.declared.nodes.Nesting.TheVariants.{Objects, Protocols}
 use Rattle.policy_nesting.specs.Graph.{leads, flag_at, AreNodes, AreChains}
 use Rattle.policy_nesting.specs.Nodes.{kind_of, row_in, nodes_of, AreNamed}
-use Rattle.policy_nesting.proofs.Tests.{own_number, below}
+use Rattle.policy_nesting.proofs.Testing.{own_number, below}
 use Rattle.policy_nesting.proofs.Chains.{circle_chains}
 use Rattle.policy_nesting.proofs.RowLaws.{nodes_few, rows_law}
 use Rattle.policy_nesting.proofs.Apart.{Same, apart_of}

@@ -1,17 +1,17 @@
 -- Whether groups nest too deep, by the flags of their nodes.
-use Rattle.std.proofs.Common.{arith, ◌≡◌, ◌∙◌, refl, sym, ap, subst, ℕ, zero, suc, ◌<◌, Bool, true, false, ◌||◌, cond, List, [], ◌∷◌, length, map, filter, get_or}
+use Rattle.std.proofs.Common.{arith, ◌≡◌, ◌∙◌, refl, sym, ap, ℕ, suc, ◌<◌, Bool, true, false, ◌||◌, cond, List, [], ◌∷◌, length, map, filter, get_or}
 use Rattle.std.specs.List.{list_any}
 use Rattle.std.proofs.lemmas.List.{length-map, get_or-map}
 use Rattle.spoc_ast.specs.Written.{DeclText}
 use Rattle.policy_decls.specs.Names.{Mention, GroupName, ProtocolGroupName, same_kind, declared_names}
-use Rattle.policy_decls.specs.Nesting.{nests, is_nesting, nesting_names}
+use Rattle.policy_decls.specs.Nesting.{nests, nesting_names}
 use Rattle.policy_names.specs.Tables.{of_kind}
 use Rattle.policy_names.proofs.TestLemmas.{list_any_map}
 use Rattle.policy_nesting.specs.declared.nodes.Nesting.{Nesting}
 use Rattle.policy_nesting.specs.declared.nodes.Nesting.TheVariants.{Objects, Protocols}
 use Rattle.policy_nesting.specs.Graph.{flag_at, chains}
-use Rattle.policy_nesting.specs.Nodes.{kind_of, nodes_of, AreNamed, IsGraph}
-use Rattle.policy_nesting.proofs.Apart.{Same, apart_of}
+use Rattle.policy_nesting.specs.Nodes.{kind_of, AreNamed, IsGraph}
+use Rattle.policy_nesting.proofs.Apart.{apart_of}
 use Rattle.policy_nesting.proofs.Reaching.{nest_is, rows_long}
 
 same_flags : (xs ys : List Bool) → length xs ≡ length ys → ((k : ℕ) → k < length ys → get_or xs k false ≡ get_or ys k false) → xs ≡ ys

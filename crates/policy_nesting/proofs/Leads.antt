@@ -2,7 +2,7 @@
 use Rattle.std.proofs.Common.{arith, ◌≡◌, ◌∙◌, sym, ap, ℕ, zero, suc, ◌+◌, ◌-◌, ◌≤◌, Bool, true, ◌||◌, eqb, List, []}
 use Rattle.policy_nesting.specs.Graph.{row_at, holds, leads, flag_at}
 use Rattle.policy_nesting.specs.Search.{Covers}
-use Rattle.policy_nesting.proofs.Tests.{or_first, or_second, either, same_number, any_then, any_all}
+use Rattle.policy_nesting.proofs.Testing.{or_first, or_second, either, same_number, any_then, any_all}
 
 module _ (rows : List (List ℕ)) where
   pub leads_more : (n a b : ℕ) → leads rows n a b ≡ true → leads rows (suc n) a b ≡ true

@@ -1,4 +1,4 @@
-pub mod Tests
+pub mod Testing
 pub mod Leads
 pub mod Chains
 pub mod Marked

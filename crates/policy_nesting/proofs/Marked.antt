@@ -7,7 +7,7 @@ use Rattle.std.proofs.lemmas.List.Sums.{count_by-le-length, sum_by-set}
 use Rattle.std.proofs.lemmas.Bool.Decides.{nat_tests}
 use Rattle.policy_nesting.specs.Graph.{row_at, holds, leads, flag_at}
 use Rattle.policy_nesting.specs.Search.{Marks, Finds, Covers}
-use Rattle.policy_nesting.proofs.Tests.{and_first, and_second, both, or_first, or_second, either, same_number, own_number, all_then, all_at}
+use Rattle.policy_nesting.proofs.Testing.{and_first, and_second, both, or_first, or_second, either, same_number, own_number, all_then, all_at}
 use Rattle.policy_nesting.proofs.Leads.{leads_le, leads_first, leads_on, all_marked}
 
 abbrev is_on : Bool → Bool

@@ -1,5 +1,5 @@
 -- A group reaches another where its node leads to that of the other.
-use Rattle.std.proofs.Common.{arith, ◌≡◌, ◌∙◌, refl, sym, ap, subst, ℕ, zero, suc, ◌+◌, ◌<◌, ◌≤◌, Bool, true, false, not, ◌&&◌, ◌||◌, cond, eqb, nat_lt, List, [], ◌∷◌, ◌++◌, length, map, filter, flat_map, get_or, position, Option, Some, None, is_some}
+use Rattle.std.proofs.Common.{arith, ◌≡◌, ◌∙◌, refl, sym, ap, subst, ℕ, zero, suc, ◌<◌, ◌≤◌, Bool, true, false, not, ◌&&◌, ◌||◌, cond, eqb, nat_lt, List, [], ◌∷◌, length, map, filter, flat_map, get_or, position, Option, Some, None, is_some}
 use Rattle.std.specs.Str.{bytes_eq}
 use Rattle.std.specs.List.{list_any, list_all}
 use Rattle.std.proofs.lemmas.List.{length-map, get_or-map, get_or_past}
@@ -10,9 +10,9 @@ use Rattle.std.proofs.lemmas.Slice.Eq.{bytes_eq-Decides}
 use Rattle.std.proofs.lemmas.Bool.{false≢true}
 use Rattle.std.proofs.lemmas.Bool.Decides.{nat_tests}
 use Rattle.spoc_ast.specs.Written.{DeclText}
-use Rattle.policy_decls.specs.Names.{Mention, NameKind, number_of_kind, same_kind, same_name, names_in, declared_names, shown_at}
+use Rattle.policy_decls.specs.Names.{Mention, number_of_kind, same_kind, same_name, names_in, declared_names, shown_at}
 use Rattle.policy_decls.specs.Uses.{uses_in, used_names, names_it, is_tag, is_unknown}
-use Rattle.policy_decls.specs.Nesting.{nested_in, reaches, nests, is_on_circle}
+use Rattle.policy_decls.specs.Nesting.{nested_in, reaches, nests}
 use Rattle.policy_decls.specs.Said.{number_among, or_zero}
 use Rattle.policy_decls.specs.Faults.{name_unknown}
 use Rattle.policy_names.specs.Tables.{of_kind}
@@ -22,7 +22,7 @@ use Rattle.policy_nesting.specs.declared.nodes.Nesting.{Nesting}
 use Rattle.policy_nesting.specs.declared.nodes.Nesting.TheVariants.{Objects, Protocols}
 use Rattle.policy_nesting.specs.Graph.{row_at, leads, chains, are_below, AreNodes}
 use Rattle.policy_nesting.specs.Nodes.{kind_of, nodes_of}
-use Rattle.policy_nesting.proofs.Tests.{and_first, and_second, both, or_first, or_second, either, same_number, own_number, below, all_then, any_same}
+use Rattle.policy_nesting.proofs.Testing.{and_first, and_second, both, same_number, own_number, below, all_then, any_same}
 use Rattle.policy_nesting.proofs.Apart.{Same, same_of, of_same, same_back, same_on, Apart, apart_filter, apart_at}
 
 -- ---- lists

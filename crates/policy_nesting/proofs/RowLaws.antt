@@ -1,12 +1,12 @@
 -- The rows of declarations are those of the names that they give.
-use Rattle.std.proofs.Common.{arith, ◌≡◌, ◌∙◌, refl, sym, ap, subst, ℕ, ◌+◌, ◌≤◌, Bool, true, false, ◌||◌, cond, List, [], ◌∷◌, ◌++◌, length, map, filter, flat_map, append-nil, append_assoc, length-append}
+use Rattle.std.proofs.Common.{arith, ◌≡◌, ◌∙◌, refl, sym, ap, subst, ℕ, ◌≤◌, Bool, true, false, ◌||◌, cond, List, [], ◌∷◌, ◌++◌, length, map, filter, flat_map, append-nil, append_assoc, length-append}
 use Rattle.std.specs.List.{list_any}
 use Rattle.std.proofs.lemmas.List.{map-append}
 use Rattle.std.proofs.lemmas.List.Elements.{filter-append}
 use Rattle.std.proofs.lemmas.List.Folds.{list_any-append}
 use Rattle.std.proofs.lemmas.List.Concat.{flat_map-append}
 use Rattle.spoc_ast.specs.Written.{Lexeme, NetPartText, NetIp, NetHost, NetNat, NetIdle, RoutPartText, RoutManaged, RoutModel, RoutRouting, RoutIface, RoutIdle, DeclText, NetworkDecl, RouterDecl, GroupDecl, AreaDecl, AggregateDecl, ProtocolDecl, ProtocolGroupDecl, RestrictionDecl, ServiceDecl}
-use Rattle.policy_decls.specs.Names.{Mention, GroupName, ProtocolGroupName, mention, number_of_kind, same_kind, same_name, names_in, names_in_net_part, names_in_rout_part, declared_names}
+use Rattle.policy_decls.specs.Names.{Mention, GroupName, ProtocolGroupName, mention, same_kind, same_name, names_in, names_in_net_part, names_in_rout_part, declared_names}
 use Rattle.policy_decls.specs.Uses.{uses_in}
 use Rattle.policy_decls.specs.Nesting.{nested_in, is_nesting}
 use Rattle.policy_decls.specs.Said.{number_among}
@@ -14,7 +14,7 @@ use Rattle.policy_names.specs.Tables.{of_kind}
 use Rattle.policy_nesting.specs.declared.nodes.Nesting.{Nesting}
 use Rattle.policy_nesting.specs.declared.nodes.Nesting.TheVariants.{Objects, Protocols}
 use Rattle.policy_nesting.specs.Nodes.{kind_of, is_node, used_of, row_in, nodes_of}
-use Rattle.policy_nesting.proofs.Tests.{or_first}
+use Rattle.policy_nesting.proofs.Testing.{or_first}
 use Rattle.policy_nesting.proofs.Apart.{Apart, apart_middle, of_same, or_none, both_none}
 
 -- the names of the kind that a declaration gives

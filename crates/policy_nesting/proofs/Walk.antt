@@ -1,5 +1,5 @@
 -- A walk over the names of groups, for the first that lies on a circle.
-use Rattle.std.proofs.Common.{arith, ◌≡◌, ◌∙◌, refl, sym, ap, ℕ, ◌+◌, ◌<◌, ◌≤◌, Bool, true, false, ◌&&◌, ◌||◌, cond, List, [], ◌∷◌, ◌++◌, length, map, filter, drop, get_or, Some, None, append_assoc}
+use Rattle.std.proofs.Common.{◌≡◌, ◌∙◌, refl, sym, ap, ℕ, ◌+◌, ◌<◌, ◌≤◌, Bool, true, false, ◌&&◌, ◌||◌, cond, List, [], ◌∷◌, ◌++◌, length, map, filter, drop, get_or, Some, None, append_assoc}
 use Rattle.std.specs.Str.{bytes_eq}
 use Rattle.std.specs.List.{list_any, list_all}
 use Rattle.std.proofs.lemmas.List.{drop_more, drop_all, get_or-map, length-map}
@@ -15,7 +15,7 @@ use Rattle.policy_names.specs.declared.mention.Mention.{Mention}
 use Rattle.policy_names.specs.declared.mention.NameKind.{NameKind}
 use Rattle.policy_names.specs.declared.mention.NameKind.TheVariants.{Network, Host, Tag, Router, Iface, Group, Area, Aggregate, Protocol, ProtocolGroup, Restriction, Service}
 use Rattle.policy_names.specs.Seen.{kind_seen, mention_seen}
-use Rattle.policy_nesting.proofs.Tests.{both, or_first, or_second, own_number}
+use Rattle.policy_nesting.proofs.Testing.{both, or_first, or_second, own_number}
 use Rattle.policy_nesting.proofs.Reaching.{all_filter, all_filter_still, all_index}
 
 -- ---- each declared name is known

@@ -1,5 +1,5 @@
 -- The groups of a policy, or its protocol groups, as numbered nodes.
-use Rattle.std.specs.Prelude.{◌≡◌, ℕ, Bool, true, false, List, [], ◌∷◌, map, filter, Option, None, if◌then◌else◌}
+use Rattle.std.specs.Prelude.{◌≡◌, ℕ, Bool, true, false, List, [], ◌∷◌, map, filter, None, if◌then◌else◌}
 use Rattle.spoc_ast.specs.Written.{DeclText, NetworkDecl, RouterDecl, GroupDecl, AreaDecl, AggregateDecl, ProtocolDecl, ProtocolGroupDecl, RestrictionDecl, ServiceDecl}
 use Rattle.policy_decls.specs.Names.{NameKind, GroupName, ProtocolGroupName, same_kind, Mention}
 use Rattle.policy_decls.specs.Uses.{uses_in}

@@ -1,5 +1,4 @@
-use Rattle.std.proofs.Common.{◌≡◌, ◌∙◌, ap, map, arith}
-use Rattle.policy_decls.specs.Nesting.{nesting_names}
+use Rattle.std.proofs.Common.{◌∙◌, ap, map, arith}
 use Rattle.policy_names.specs.Seen.{mention_seen, decls_of}
 use Rattle.policy_nesting.proofs.Walk.{first_here, none_here}
 use Rattle.policy_nesting.proofs.circle.first_of.Goals as goal

@@ -1,7 +1,7 @@
-use Rattle.std.proofs.Common.{◌≡◌, ◌<◌, ℕ, subst, sym, refl, length, Some, None}
+use Rattle.std.proofs.Common.{◌<◌, subst, sym, refl, Some, None}
 use Rattle.std.proofs.lemmas.Result.{IfOk-weaker}
 use Rattle.policy_decls.specs.Uses.{names_it}
-use Rattle.policy_names.specs.Seen.{kind_seen, mention_seen}
+use Rattle.policy_names.specs.Seen.{mention_seen}
 use Rattle.policy_names.specs.Tables.{numbered}
 use Rattle.policy_nesting.proofs.Circles.{position_within, circle_none, circle_at}
 use Rattle.policy_nesting.proofs.circle.lies_on_circle.Goals as goal

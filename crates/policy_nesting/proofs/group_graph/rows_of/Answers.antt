@@ -1,4 +1,4 @@
-use Rattle.std.proofs.Common.{◌≡◌, ap, drop}
+use Rattle.std.proofs.Common.{ap, drop}
 use Rattle.std.proofs.lemmas.List.{drop_all}
 use Rattle.policy_names.specs.Seen.{decls_of}
 use Rattle.policy_nesting.proofs.Circles.{rows_done, rows_are_nodes}
