@@ -17,6 +17,8 @@ mod router;
 mod service;
 mod sets;
 pub mod shapes;
+#[cfg(test)]
+mod tests;
 mod word;
 
 pub use shapes::first_shape;
