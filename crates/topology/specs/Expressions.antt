@@ -1,5 +1,5 @@
 -- Sets of objects as the definitions' expressions.
-use Rattle.std.specs.Prelude.{ℕ, Bool, true, false, Option, Some, None, option_map}
+use Rattle.std.specs.Prelude.{Bool, true, false, option_map}
 use Rattle.spoc_base.specs.Shown.{cidr_of}
 use Rattle.policy_model.specs.Policy.{ObjectExpr, NoObjects, OneNet, OneHost, OneIface, OfGroup, OfAggregate, OfArea, OfUser, NetsOf, HostsOf, ZonesOf, Joined, Common, Without}
 use Rattle.topology.specs.declared.sets.Union.{Union, Union', Row_of-Inter, end_of-Inter, more_of-Inter}

@@ -2,11 +2,13 @@
 use Rattle.std.specs.Prelude.{◌≡◌, ℕ, ◌<◌, List, length, map, filter, ◌==◌}
 use Rattle.std.specs.List.{All}
 use Rattle.spoc_base.specs.declared.place.Source.{Source}
-use Rattle.policy_model.specs.Policy.{Policy, net_at, router_at, all_ifaces}
-use Rattle.topology.specs.Texts.{LiesIn, IsNameIn}
+use Rattle.spoc_base.specs.declared.place.Kind.TheVariants as kind
+use Rattle.policy_model.specs.Policy.{Policy, net_at, router_at, all_ifaces, net_of, router_of}
+use Rattle.topology.specs.Texts.{LiesIn, IsCalled, IsIfaceCalled}
 use Rattle.topology.specs.Rows.{AreRows, row_at}
 use Rattle.topology.specs.Seen.{plain_of}
 use Rattle.topology.specs.Sound.{IsSound}
+use Rattle.topology.specs.declared.items.Iface.{Iface}
 use Rattle.topology.specs.declared.items.Parts.{Parts}
 use Rattle.topology.specs.declared.items.IfRows.{IfRows}
 
@@ -18,18 +20,22 @@ ifaces_of p r = filter (λ i. router_at p i == r) (all_ifaces p)
 abbrev pub ifaces_at : Policy → ℕ → List ℕ
 ifaces_at p n = filter (λ i. net_at p i == n) (all_ifaces p)
 
--- names and hardware are parts of the sources
+-- The interface is called by the names of its router and its network, and its hardware is a part of a source.
+abbrev pub IsIfaceWritten : List Source → Policy → Iface → Type 0
+IsIfaceWritten sources p x = IsIfaceCalled sources (router_of p x.router.0).name (net_of p x.net.0).name x.name × LiesIn sources x.hardware
+
+-- Each thing is called by its kind and its name, and names and hardware are parts of the sources.
 pub record IsWritten (parts : Parts) : Type 0 where
-  pub nets : All (λ x. IsNameIn parts.sources.now x.name) parts.nets.now
-  pub hosts : All (λ x. IsNameIn parts.sources.now x.name) parts.hosts.now
-  pub routers : All (λ x. IsNameIn parts.sources.now x.name) parts.routers.now
-  pub ifaces : All (λ x. IsNameIn parts.sources.now x.name × LiesIn parts.sources.now x.hardware) parts.ifaces.now
-  pub tags : All (λ x. IsNameIn parts.sources.now x.name) parts.tags.now
-  pub restrictions : All (λ x. IsNameIn parts.sources.now x.name) parts.restrictions.now
-  pub groups : All (λ x. IsNameIn parts.sources.now x.name) parts.groups.now
-  pub areas : All (λ x. IsNameIn parts.sources.now x.name) parts.areas.now
-  pub aggregates : All (λ x. IsNameIn parts.sources.now x.name) parts.aggregates.now
-  pub services : All (λ x. IsNameIn parts.sources.now x.name) parts.services.now
+  pub nets : All (λ x. IsCalled kind.Network parts.sources.now x.name) parts.nets.now
+  pub hosts : All (λ x. IsCalled kind.Host parts.sources.now x.name) parts.hosts.now
+  pub routers : All (λ x. IsCalled kind.Router parts.sources.now x.name) parts.routers.now
+  pub ifaces : All (IsIfaceWritten parts.sources.now (plain_of parts)) parts.ifaces.now
+  pub tags : All (λ x. IsCalled kind.Tag parts.sources.now x.name) parts.tags.now
+  pub restrictions : All (λ x. IsCalled kind.Restriction parts.sources.now x.name) parts.restrictions.now
+  pub groups : All (λ x. IsCalled kind.Group parts.sources.now x.name) parts.groups.now
+  pub areas : All (λ x. IsCalled kind.Area parts.sources.now x.name) parts.areas.now
+  pub aggregates : All (λ x. IsCalled kind.Aggregate parts.sources.now x.name) parts.aggregates.now
+  pub services : All (λ x. IsCalled kind.Service parts.sources.now x.name) parts.services.now
 
 -- there are so many rows, and the k-th has the numbers that a list has for k
 pub record HoldsRows (rows : IfRows) (count : ℕ) (numbers : ℕ → List ℕ) : Type 0 where

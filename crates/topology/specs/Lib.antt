@@ -1,7 +1,9 @@
 pub mod Expressions
+pub mod First
 pub mod Kept
 pub mod Rows
 pub mod Seen
 pub mod Sound
 pub mod Texts
+pub mod Told
 pub mod View

@@ -1,5 +1,5 @@
 -- The lists of a policy as the definitions' plain policy.
-use Rattle.std.specs.Prelude.{ℕ, List, map, Option, Some, option_map}
+use Rattle.std.specs.Prelude.{List, map, Some, option_map}
 use Rattle.spoc_base.specs.Shown.{cidr_of, interval_of, box_of}
 use Rattle.spoc_base.specs.declared.place.Source.{Source}
 use Rattle.policy_model.specs.Policy as plain

@@ -1,9 +1,9 @@
 -- What each policy in memory keeps, as far as the definitions' plain policy shows it.
-use Rattle.std.specs.Prelude.{◌≡◌, ◌≢◌, ℕ, ◌<◌, ◌≤◌, ◌^◌, Bool, true, false, not, ◌&&◌, ◌||◌, ◌==◌, nat_lt, nat_le, List, [], ◌∷◌, ◌++◌, length, map, flat_map, filter, slice_index_or, Option, Some, None, is_some, IsTrue, IfSome}
-use Rattle.std.specs.List.{list_all, list_any, All}
+use Rattle.std.specs.Prelude.{◌≡◌, ℕ, ◌<◌, ◌≤◌, ◌^◌, Bool, true, false, not, ◌&&◌, ◌||◌, ◌==◌, nat_lt, nat_le, List, [], ◌∷◌, ◌++◌, length, map, slice_index_or, Option, Some, None, is_some, IsTrue, IfSome}
+use Rattle.std.specs.List.{list_all, list_any}
 use Rattle.spoc_base.specs.Address.{Cidr, addresses, interval_covers, prefix_holds}
 use Rattle.policy_model.specs.Lists.{has, are_distinct, is_nothing}
-use Rattle.policy_model.specs.Policy.{Policy, Rule, Service, ObjectExpr, NoObjects, OneNet, OneHost, OneIface, OfGroup, OfAggregate, OfArea, OfUser, NetsOf, HostsOf, ZonesOf, Joined, Common, Without, net_of, host_of, router_of, iface_of, group_of, area_of, aggregate_of, net_at, router_at, is_managed, managed_routers}
+use Rattle.policy_model.specs.Policy.{Policy, Rule, Service, ObjectExpr, NoObjects, OneNet, OneHost, OneIface, OfGroup, OfAggregate, OfArea, OfUser, NetsOf, HostsOf, ZonesOf, Joined, Common, Without, net_of, host_of, iface_of, group_of, area_of, aggregate_of, net_at, router_at, is_managed, managed_routers}
 
 -- The expression names things that are there: an interface of a managed router or one with an address, the user only where there is one, and areas
 -- only inside the brackets of another set.

@@ -18,8 +18,10 @@ pub struct Topo<'a> {
 }
 
 impl<'a> Topo<'a> {
+    ghost use Rattle.std.specs.List.{All};
     ghost use Rattle.policy_model.specs.Policy.{net_of, host_of, router_of, iface_of, group_of, area_of, aggregate_of, net_at, router_at};
-    ghost use Rattle.topology.specs.Texts.{LiesIn, text_at};
+    ghost use Rattle.topology.specs.Texts.{LiesIn, text_at, IsCalled, IsIfaceCalled};
+    ghost use Rattle.spoc_base.specs.declared.place.Kind.TheVariants as kind;
     ghost use Rattle.topology.specs.Seen.{net_seen, host_seen, router_seen, iface_seen, tag_seen, restriction_seen, group_seen, area_seen, aggregate_seen, service_seen, plain_of};
     ghost use Rattle.topology.specs.Kept.{ifaces_of, ifaces_at};
     ghost use Rattle.topology.specs.View.{policy_of, sources_of};
@@ -63,7 +65,8 @@ impl<'a> Topo<'a> {
 
     /// The tags of translations, by number.
     pub fn tags(self) -> &'a [Tag]
-        ensures { map (tag_seen (sources_of self.entry)) result.now ≡ (policy_of self.entry).tags }
+        ensures seen { map (tag_seen (sources_of self.entry)) result.now ≡ (policy_of self.entry).tags }
+        ensures named { All (λ x. IsCalled kind.Tag (sources_of self.entry) x.name) result.now }
     {
         self.parts.tags
     }
@@ -84,7 +87,8 @@ impl<'a> Topo<'a> {
 
     /// The areas, by number.
     pub fn areas(self) -> &'a [Area<'a>]
-        ensures { map (area_seen (sources_of self.entry)) result.now ≡ (policy_of self.entry).areas }
+        ensures seen { map (area_seen (sources_of self.entry)) result.now ≡ (policy_of self.entry).areas }
+        ensures named { All (λ x. IsCalled kind.Area (sources_of self.entry) x.name) result.now }
     {
         self.parts.areas
     }
@@ -98,7 +102,8 @@ impl<'a> Topo<'a> {
 
     /// The services, by number.
     pub fn services(self) -> &'a [Service<'a>]
-        ensures { map (service_seen (sources_of self.entry)) result.now ≡ (policy_of self.entry).services }
+        ensures seen { map (service_seen (sources_of self.entry)) result.now ≡ (policy_of self.entry).services }
+        ensures named { All (λ x. IsCalled kind.Service (sources_of self.entry) x.name) result.now }
     {
         self.parts.services
     }
@@ -106,7 +111,8 @@ impl<'a> Topo<'a> {
     /// The network of this number.
     pub fn net(self, n: NetId) -> Network<'a>
         requires { n.0 < length (policy_of self).nets }
-        ensures { net_of (policy_of self.entry) n.0 ≡ net_seen (sources_of self.entry) result }
+        ensures seen { net_of (policy_of self.entry) n.0 ≡ net_seen (sources_of self.entry) result }
+        ensures named { IsCalled kind.Network (sources_of self.entry) result.name }
     {
         self.parts.nets[n.0 as usize]
     }
@@ -114,7 +120,8 @@ impl<'a> Topo<'a> {
     /// The host of this number.
     pub fn host(self, h: HostId) -> Host
         requires { h.0 < length (policy_of self).hosts }
-        ensures { host_of (policy_of self.entry) h.0 ≡ host_seen (sources_of self.entry) result }
+        ensures seen { host_of (policy_of self.entry) h.0 ≡ host_seen (sources_of self.entry) result }
+        ensures named { IsCalled kind.Host (sources_of self.entry) result.name }
     {
         self.parts.hosts[h.0 as usize]
     }
@@ -122,7 +129,8 @@ impl<'a> Topo<'a> {
     /// The router of this number.
     pub fn router(self, r: RouterId) -> Router
         requires { r.0 < length (policy_of self).routers }
-        ensures { router_of (policy_of self.entry) r.0 ≡ router_seen (sources_of self.entry) result }
+        ensures seen { router_of (policy_of self.entry) r.0 ≡ router_seen (sources_of self.entry) result }
+        ensures named { IsCalled kind.Router (sources_of self.entry) result.name }
     {
         self.parts.routers[r.0 as usize]
     }
@@ -130,7 +138,9 @@ impl<'a> Topo<'a> {
     /// The interface of this number.
     pub fn iface(self, i: IfId) -> Iface<'a>
         requires { i.0 < length (policy_of self).ifaces }
-        ensures { iface_of (policy_of self.entry) i.0 ≡ iface_seen (sources_of self.entry) result }
+        ensures seen { iface_of (policy_of self.entry) i.0 ≡ iface_seen (sources_of self.entry) result }
+        ensures named { IsIfaceCalled (sources_of self.entry) (router_of (policy_of self.entry) result.router.0).name (net_of (policy_of self.entry) result.net.0).name result.name }
+        ensures hardware { LiesIn (sources_of self.entry) result.hardware }
     {
         self.parts.ifaces[i.0 as usize]
     }
@@ -138,7 +148,8 @@ impl<'a> Topo<'a> {
     /// The group at this place.
     pub fn group(self, g: u32) -> Group<'a>
         requires { g < length (policy_of self).groups }
-        ensures { group_of (policy_of self.entry) g ≡ group_seen (sources_of self.entry) result }
+        ensures seen { group_of (policy_of self.entry) g ≡ group_seen (sources_of self.entry) result }
+        ensures named { IsCalled kind.Group (sources_of self.entry) result.name }
     {
         self.parts.groups[g as usize]
     }
@@ -146,7 +157,8 @@ impl<'a> Topo<'a> {
     /// The area at this place.
     pub fn area(self, k: u32) -> Area<'a>
         requires { k < length (policy_of self).areas }
-        ensures { area_of (policy_of self.entry) k ≡ area_seen (sources_of self.entry) result }
+        ensures seen { area_of (policy_of self.entry) k ≡ area_seen (sources_of self.entry) result }
+        ensures named { IsCalled kind.Area (sources_of self.entry) result.name }
     {
         self.parts.areas[k as usize]
     }
@@ -154,7 +166,8 @@ impl<'a> Topo<'a> {
     /// The aggregate at this place.
     pub fn aggregate(self, k: u32) -> Aggregate
         requires { k < length (policy_of self).aggregates }
-        ensures { aggregate_of (policy_of self.entry) k ≡ aggregate_seen (sources_of self.entry) result }
+        ensures seen { aggregate_of (policy_of self.entry) k ≡ aggregate_seen (sources_of self.entry) result }
+        ensures named { IsCalled kind.Aggregate (sources_of self.entry) result.name }
     {
         self.parts.aggregates[k as usize]
     }

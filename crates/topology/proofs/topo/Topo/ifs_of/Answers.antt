@@ -1,4 +1,4 @@
-use Rattle.std.proofs.Common.{◌≡◌, ◌∙◌, ap, map}
+use Rattle.std.proofs.Common.{◌∙◌, ap, map}
 use Rattle.topology.proofs.topo.Topo.ifs_of.Goals as goal
 
 pub returns : goal.returns
