@@ -1,8 +1,0 @@
-use Rattle.topology.specs.Texts.{IsNameIn}
-use Rattle.policy_resolve.specs.Views.{sources_in}
-use Rattle.policy_resolve.proofs.Grown.{all_pushed}
-use Rattle.policy_resolve.proofs.aggregates.add_aggregate.Goals as goal
-
-pub returns-clause-written : goal.returns-clause-written
-returns-clause-written c =
-    all_pushed (λ x. IsNameIn (sources_in c.args.scope) x.name) c.args.found.now.items c.push.new.self.items _ c.in-Ok.ensures.items c.requires.written c.named.ensures.written

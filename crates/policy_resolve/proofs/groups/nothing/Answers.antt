@@ -1,6 +1,0 @@
-use Rattle.std.proofs.Common.{refl}
-use Rattle.policy_resolve.proofs.Unions.{no_parts}
-use Rattle.policy_resolve.proofs.groups.nothing.Goals as goal
-
-pub returns : goal.returns
-returns c = no_parts _ refl

@@ -1,8 +1,0 @@
-use Rattle.std.proofs.Common.{ap, sym, option_and_then, map}
-use Rattle.spoc_ast.specs.Seen.{word_seen}
-use Rattle.policy_resolve.specs.Aligned.{aligned_prefix}
-use Rattle.policy_resolve.proofs.Firsts.{not_alone}
-use Rattle.policy_resolve.proofs.nets.only.Goals as goal
-
-pub returns-in_default-2 : goal.returns-in_default-2
-returns-in_default-2 c = sym (ap (option_and_then aligned_prefix) (not_alone word_seen c.args.ips.now c.in_default.len_at_least))
