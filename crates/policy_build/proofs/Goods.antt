@@ -9,6 +9,8 @@ use Rattle.spoc_ast.specs.declared.decl.NetPart.{NetPart}
 use Rattle.spoc_ast.specs.declared.decl.RoutPart.{RoutPart}
 use Rattle.spoc_ast.specs.Seen.{decl_seen, net_part_seen, rout_part_seen, rule_seen}
 use Rattle.spoc_ast.specs.declared.decl.RuleTree.{RuleTree}
+use Rattle.spoc_ast.specs.Written.{DeclText}
+use Rattle.policy_build.specs.Ifaces.{IsPartPlaced, IsPlaced}
 use Rattle.policy_build.specs.Good.{IsGood, IsGoodNetPart, IsGoodRoutPart, IsGoodRule}
 
 module _ {A B : Type 0} (f : A → B) (P : B → Type 0) where
@@ -29,3 +31,9 @@ rout_part_good sources parts i d h all = unmapped rout_part_seen (IsGoodRoutPart
 
 pub rule_good : (rules : List RuleTree) (i : ℕ) (d : RuleTree) → i < length rules → All IsGoodRule (map rule_seen rules) → IsGoodRule (rule_seen (get_or rules i d))
 rule_good rules i d h all = unmapped rule_seen IsGoodRule rules i d h all
+
+pub decl_placed_at : (all : List DeclText) (decls : List Decl) (i : ℕ) (d : Decl) → d ≡ get_or decls i d → i < length decls → All (IsPlaced all) (map decl_seen decls) → IsPlaced all (decl_seen d)
+decl_placed_at all decls i d e h each = subst (λ x. IsPlaced all (decl_seen x)) (sym e) (unmapped decl_seen (IsPlaced all) decls i d h each)
+
+pub rout_part_placed : (all : List DeclText) (parts : List RoutPart) (i : ℕ) (d : RoutPart) → i < length parts → All (IsPartPlaced all) (map rout_part_seen parts) → IsPartPlaced all (rout_part_seen (get_or parts i d))
+rout_part_placed all parts i d h each = unmapped rout_part_seen (IsPartPlaced all) parts i d h each

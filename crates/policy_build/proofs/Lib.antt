@@ -11,4 +11,5 @@ pub mod TagTexts
 pub mod Fairness
 pub mod RowLists
 pub mod Faultless
+pub mod Placed
 pub mod Parted

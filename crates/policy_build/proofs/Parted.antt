@@ -9,7 +9,9 @@ use Rattle.policy_model.specs.Policy as plain
 use Rattle.policy_model.specs.Policy.{Policy, no_iface}
 use Rattle.topology.specs.Seen.{net_seen, host_seen, router_seen, iface_seen, tag_seen, restriction_seen, group_seen, area_seen, aggregate_seen, service_seen, plain_of}
 use Rattle.topology.specs.Sound.{IsSound}
-use Rattle.topology.specs.Kept.{HoldsRows, ifaces_of, ifaces_at, IsWritten, IsKept}
+use Rattle.spoc_base.specs.declared.place.Kind.TheVariants as kind
+use Rattle.topology.specs.Texts.{IsCalled}
+use Rattle.topology.specs.Kept.{HoldsRows, ifaces_of, ifaces_at, IsIfaceWritten, IsWritten, IsKept}
 use Rattle.topology.specs.declared.items.Network.{Network}
 use Rattle.topology.specs.declared.items.Router.{Router}
 use Rattle.topology.specs.declared.items.Iface.{Iface}
@@ -99,7 +101,35 @@ same_policy parts p s =
       services = s.services i;
     }
 
-pub is_kept : (parts : Parts) (p : Policy) → AreSaid parts p → IsSound p → IsWritten parts → HoldsRows parts.at_router (length parts.routers.now) (owned_by (map (λ i. i.router.0) parts.ifaces.now))
+-- each thing is called by its kind and its name, interfaces by the names that the policy has
+pub record AreCalled (parts : Parts) (p : Policy) : Type 0 where
+  pub nets : All (λ x. IsCalled kind.Network parts.sources.now x.name) parts.nets.now
+  pub hosts : All (λ x. IsCalled kind.Host parts.sources.now x.name) parts.hosts.now
+  pub routers : All (λ x. IsCalled kind.Router parts.sources.now x.name) parts.routers.now
+  pub ifaces : All (IsIfaceWritten parts.sources.now p) parts.ifaces.now
+  pub tags : All (λ x. IsCalled kind.Tag parts.sources.now x.name) parts.tags.now
+  pub restrictions : All (λ x. IsCalled kind.Restriction parts.sources.now x.name) parts.restrictions.now
+  pub groups : All (λ x. IsCalled kind.Group parts.sources.now x.name) parts.groups.now
+  pub areas : All (λ x. IsCalled kind.Area parts.sources.now x.name) parts.areas.now
+  pub aggregates : All (λ x. IsCalled kind.Aggregate parts.sources.now x.name) parts.aggregates.now
+  pub services : All (λ x. IsCalled kind.Service parts.sources.now x.name) parts.services.now
+
+is_written : (parts : Parts) (p : Policy) → plain_of parts ≡ p → AreCalled parts p → IsWritten parts
+is_written parts p e c =
+    record {
+      nets = c.nets;
+      hosts = c.hosts;
+      routers = c.routers;
+      ifaces = subst (λ q. All (IsIfaceWritten parts.sources.now q) parts.ifaces.now) (sym e) c.ifaces;
+      tags = c.tags;
+      restrictions = c.restrictions;
+      groups = c.groups;
+      areas = c.areas;
+      aggregates = c.aggregates;
+      services = c.services;
+    }
+
+pub is_kept : (parts : Parts) (p : Policy) → AreSaid parts p → IsSound p → AreCalled parts p → HoldsRows parts.at_router (length parts.routers.now) (owned_by (map (λ i. i.router.0) parts.ifaces.now))
     → HoldsRows parts.at_net (length parts.nets.now) (owned_by (map (λ i. i.net.0) parts.ifaces.now)) → IsKept parts
 is_kept parts p s sound written at_router at_net =
     let sources = parts.sources.now in
@@ -108,7 +138,7 @@ is_kept parts p s sound written at_router at_net =
     let nets = sym (length-map parts.nets.now (net_seen sources)) ∙ ap length s.nets in
     record {
       sound = subst IsSound (sym e) sound;
-      written = written;
+      written = is_written parts p e written;
       at_router = subst (λ q. HoldsRows parts.at_router (length q.routers) (ifaces_of q)) (sym e) (router_rows sources p parts.ifaces.now s.ifaces parts.at_router (length parts.routers.now) (length p.routers) routers at_router);
       at_net = subst (λ q. HoldsRows parts.at_net (length q.nets) (ifaces_at q)) (sym e) (net_rows sources p parts.ifaces.now s.ifaces parts.at_net (length parts.nets.now) (length p.nets) nets at_net);
     }

@@ -4,7 +4,8 @@ use Rattle.std.specs.Str.{bytes_eq}
 use Rattle.std.specs.List.{All, list_any}
 use Rattle.spoc_base.specs.declared.place.Source.{Source}
 use Rattle.spoc_ast.specs.Written.{NetPartText, NetIp, NetHost, NetNat, NetIdle, DeclText, NetworkDecl, RouterDecl, GroupDecl, AreaDecl, AggregateDecl, ProtocolDecl, ProtocolGroupDecl, RestrictionDecl, ServiceDecl}
-use Rattle.topology.specs.Texts.{name_at, IsNameIn}
+use Rattle.spoc_base.specs.declared.place.Kind.TheVariants as kind
+use Rattle.topology.specs.Texts.{name_at, IsCalled}
 use Rattle.policy_build.specs.declared.tags.Known.{Known}
 
 -- the texts, with one more where it isn't among them
@@ -32,4 +33,4 @@ tag_texts (ServiceDecl name desc idle user rules) = []
 -- the tags that were found have the texts that were found, and stand in the sources
 pub record IsKnown (sources : List Source) (known : Known) : Type 0 where
   pub said : map (λ tag. name_at sources tag.name) known.found.items ≡ known.texts
-  pub written : All (λ x. IsNameIn sources x.name) known.found.items
+  pub written : All (λ x. IsCalled kind.Tag sources x.name) known.found.items

@@ -4,7 +4,8 @@ ghost use Rattle.spoc_ast.specs.Seen.{word_seen, any_part_seen, decl_seen};
 ghost use Rattle.policy_decls.specs.Names.{NetworkName};
 ghost use Rattle.policy_decls.specs.Shapes.{links_in, ips_in_any_part};
 ghost use Rattle.policy_decls.specs.Said.{or_zero, number_of_name, adds_of, policy_said};
-ghost use Rattle.topology.specs.Texts.{IsNameIn};
+ghost use Rattle.spoc_base.specs.declared.place.Kind.TheVariants as kind;
+ghost use Rattle.topology.specs.Texts.{IsCalled};
 ghost use Rattle.topology.specs.Seen.{aggregate_seen};
 ghost use Rattle.policy_build.specs.Views.{decls_of, sources_in};
 ghost use Rattle.policy_build.specs.Good.{IsGood};
@@ -22,7 +23,7 @@ use topology::Aggregate;
 pub(crate) fn aggregates<'a>(scope: Scope<'a, '_>) -> Result<&'a [Aggregate], NoMemory>
     requires { All (IsGood (sources_in scope)) (decls_of scope) }
     ensures said { IfOk result (λ aggregates. map (aggregate_seen (sources_in scope.entry)) aggregates.now ≡ (policy_said (decls_of scope.entry)).aggregates) }
-    ensures written { IfOk result (λ aggregates. All (λ x. IsNameIn (sources_in scope.entry) x.name) aggregates.now) }
+    ensures written { IfOk result (λ aggregates. All (λ x. IsCalled kind.Aggregate (sources_in scope.entry) x.name) aggregates.now) }
 {
     let mut found = Vec::new(scope.arena);
     for decl in scope.decls {
@@ -37,9 +38,9 @@ fn add_aggregate<'a>(
     found: &mut Vec<Aggregate, &'a Bump>,
 ) -> Result<(), NoMemory>
     requires good { IsGood (sources_in scope) (decl_seen decl.now) }
-    requires written { All (λ x. IsNameIn (sources_in scope) x.name) found.old.items }
+    requires written { All (λ x. IsCalled kind.Aggregate (sources_in scope) x.name) found.old.items }
     ensures said { OnOk result (map (aggregate_seen (sources_in scope.entry)) found.new.items ≡ map (aggregate_seen (sources_in scope.entry)) found.old.items ++ (adds_of (decls_of scope.entry) (decl_seen decl.now)).aggregates) }
-    ensures written { OnOk result (All (λ x. IsNameIn (sources_in scope.entry) x.name) found.new.items) }
+    ensures written { OnOk result (All (λ x. IsCalled kind.Aggregate (sources_in scope.entry) x.name) found.new.items) }
 {
     let Decl::Aggregate { name, parts, .. } = decl else {
         return Ok(());

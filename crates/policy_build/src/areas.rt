@@ -4,7 +4,8 @@ ghost use Rattle.spoc_ast.specs.Seen.{word_seen, area_part_seen, decl_seen};
 ghost use Rattle.policy_decls.specs.Names.{NetworkName};
 ghost use Rattle.policy_decls.specs.Shapes.{anchors_in, borders_in};
 ghost use Rattle.policy_decls.specs.Said.{number_of_name, number_of_port, adds_of, policy_said};
-ghost use Rattle.topology.specs.Texts.{IsNameIn};
+ghost use Rattle.spoc_base.specs.declared.place.Kind.TheVariants as kind;
+ghost use Rattle.topology.specs.Texts.{IsCalled};
 ghost use Rattle.topology.specs.Seen.{area_seen};
 ghost use Rattle.policy_build.specs.Views.{decls_of, sources_in};
 ghost use Rattle.policy_build.specs.Good.{IsGood};
@@ -22,7 +23,7 @@ use topology::Area;
 pub(crate) fn areas<'a>(scope: Scope<'a, '_>) -> Result<&'a [Area<'a>], NoMemory>
     requires { All (IsGood (sources_in scope)) (decls_of scope) }
     ensures said { IfOk result (λ areas. map (area_seen (sources_in scope.entry)) areas.now ≡ (policy_said (decls_of scope.entry)).areas) }
-    ensures written { IfOk result (λ areas. All (λ x. IsNameIn (sources_in scope.entry) x.name) areas.now) }
+    ensures written { IfOk result (λ areas. All (λ x. IsCalled kind.Area (sources_in scope.entry) x.name) areas.now) }
 {
     let mut found = Vec::new(scope.arena);
     for decl in scope.decls {
@@ -37,9 +38,9 @@ fn add_area<'a>(
     found: &mut Vec<Area<'a>, &'a Bump>,
 ) -> Result<(), NoMemory>
     requires good { IsGood (sources_in scope) (decl_seen decl.now) }
-    requires written { All (λ x. IsNameIn (sources_in scope) x.name) found.old.items }
+    requires written { All (λ x. IsCalled kind.Area (sources_in scope) x.name) found.old.items }
     ensures said { OnOk result (map (area_seen (sources_in scope.entry)) found.new.items ≡ map (area_seen (sources_in scope.entry)) found.old.items ++ (adds_of (decls_of scope.entry) (decl_seen decl.now)).areas) }
-    ensures written { OnOk result (All (λ x. IsNameIn (sources_in scope.entry) x.name) found.new.items) }
+    ensures written { OnOk result (All (λ x. IsCalled kind.Area (sources_in scope.entry) x.name) found.new.items) }
 {
     let Decl::Area { name, parts, .. } = decl else {
         return Ok(());

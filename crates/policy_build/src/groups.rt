@@ -4,7 +4,8 @@ ghost use Rattle.policy_model.specs.Policy.{NoObjects};
 ghost use Rattle.spoc_ast.specs.Seen.{set_seen, decl_seen};
 ghost use Rattle.policy_decls.specs.Said.{expr_or_none, adds_of, policy_said};
 ghost use Rattle.topology.specs.Expressions.{expr_of};
-ghost use Rattle.topology.specs.Texts.{IsNameIn};
+ghost use Rattle.spoc_base.specs.declared.place.Kind.TheVariants as kind;
+ghost use Rattle.topology.specs.Texts.{IsCalled};
 ghost use Rattle.topology.specs.Seen.{group_seen};
 ghost use Rattle.policy_build.specs.Views.{decls_of, sources_in};
 ghost use Rattle.policy_build.specs.Good.{asks_aligned_objects, IsGood};
@@ -21,7 +22,7 @@ use topology::{Group, Union};
 pub(crate) fn groups<'a>(scope: Scope<'a, '_>) -> Result<&'a [Group<'a>], NoMemory>
     requires { All (IsGood (sources_in scope)) (decls_of scope) }
     ensures said { IfOk result (λ groups. map (group_seen (sources_in scope.entry)) groups.now ≡ (policy_said (decls_of scope.entry)).groups) }
-    ensures written { IfOk result (λ groups. All (λ x. IsNameIn (sources_in scope.entry) x.name) groups.now) }
+    ensures written { IfOk result (λ groups. All (λ x. IsCalled kind.Group (sources_in scope.entry) x.name) groups.now) }
 {
     let mut found = Vec::new(scope.arena);
     for decl in scope.decls {
@@ -36,9 +37,9 @@ fn add_group<'a>(
     found: &mut Vec<Group<'a>, &'a Bump>,
 ) -> Result<(), NoMemory>
     requires good { IsGood (sources_in scope) (decl_seen decl.now) }
-    requires written { All (λ x. IsNameIn (sources_in scope) x.name) found.old.items }
+    requires written { All (λ x. IsCalled kind.Group (sources_in scope) x.name) found.old.items }
     ensures said { OnOk result (map (group_seen (sources_in scope.entry)) found.new.items ≡ map (group_seen (sources_in scope.entry)) found.old.items ++ (adds_of (decls_of scope.entry) (decl_seen decl.now)).groups) }
-    ensures written { OnOk result (All (λ x. IsNameIn (sources_in scope.entry) x.name) found.new.items) }
+    ensures written { OnOk result (All (λ x. IsCalled kind.Group (sources_in scope.entry) x.name) found.new.items) }
 {
     let Decl::Group { name, objects, .. } = decl else {
         return Ok(());

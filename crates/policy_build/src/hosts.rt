@@ -5,7 +5,8 @@ ghost use Rattle.spoc_ast.specs.Seen.{word_seen, host_part_seen, net_part_seen, 
 ghost use Rattle.policy_decls.specs.Shapes.{spans_in};
 ghost use Rattle.policy_decls.specs.Said.{range_or_none, hosts_said, adds_of, policy_said};
 ghost use Rattle.policy_numbers.specs.Seen.{range_seen};
-ghost use Rattle.topology.specs.Texts.{IsNameIn};
+ghost use Rattle.spoc_base.specs.declared.place.Kind.TheVariants as kind;
+ghost use Rattle.topology.specs.Texts.{IsCalled};
 ghost use Rattle.topology.specs.Seen.{host_seen};
 ghost use Rattle.policy_build.specs.Views.{decls_of, sources_in, listed};
 ghost use Rattle.policy_build.specs.Good.{IsOrdered, IsGoodNetPart, IsGood};
@@ -24,7 +25,7 @@ use topology::Host;
 pub(crate) fn hosts<'a>(scope: Scope<'a, '_>) -> Result<&'a [Host], NoMemory>
     requires { All (IsGood (sources_in scope)) (decls_of scope) }
     ensures said { IfOk result (λ hosts. map (host_seen (sources_in scope.entry)) hosts.now ≡ (policy_said (decls_of scope.entry)).hosts) }
-    ensures written { IfOk result (λ hosts. All (λ x. IsNameIn (sources_in scope.entry) x.name) hosts.now) }
+    ensures written { IfOk result (λ hosts. All (λ x. IsCalled kind.Host (sources_in scope.entry) x.name) hosts.now) }
 {
     let mut found = Vec::new(scope.arena);
     for decl in scope.decls {
@@ -39,9 +40,9 @@ fn add_hosts<'a>(
     found: &mut Vec<Host, &'a Bump>,
 ) -> Result<(), NoMemory>
     requires good { IsGood (sources_in scope) (decl_seen decl.now) }
-    requires written { All (λ x. IsNameIn (sources_in scope) x.name) found.old.items }
+    requires written { All (λ x. IsCalled kind.Host (sources_in scope) x.name) found.old.items }
     ensures said { OnOk result (map (host_seen (sources_in scope.entry)) found.new.items ≡ map (host_seen (sources_in scope.entry)) found.old.items ++ (adds_of (decls_of scope.entry) (decl_seen decl.now)).hosts) }
-    ensures written { OnOk result (All (λ x. IsNameIn (sources_in scope.entry) x.name) found.new.items) }
+    ensures written { OnOk result (All (λ x. IsCalled kind.Host (sources_in scope.entry) x.name) found.new.items) }
 {
     let Decl::Network { name, parts, .. } = decl else {
         return Ok(());
@@ -58,9 +59,9 @@ fn hosts_of<'a>(
     found: &mut Vec<Host, &'a Bump>,
 ) -> Result<(), NoMemory>
     requires good { All (IsGoodNetPart (sources_in scope)) (map net_part_seen parts.now) }
-    requires written { All (λ x. IsNameIn (sources_in scope) x.name) found.old.items }
+    requires written { All (λ x. IsCalled kind.Host (sources_in scope) x.name) found.old.items }
     ensures said { OnOk result (map (host_seen (sources_in scope.entry)) found.new.items ≡ map (host_seen (sources_in scope.entry)) found.old.items ++ flat_map (hosts_said net.0) (map net_part_seen parts.now)) }
-    ensures written { OnOk result (All (λ x. IsNameIn (sources_in scope.entry) x.name) found.new.items) }
+    ensures written { OnOk result (All (λ x. IsCalled kind.Host (sources_in scope.entry) x.name) found.new.items) }
 {
     for part in parts {
         add_host(scope, net, part, found)?;
@@ -75,9 +76,9 @@ fn add_host<'a>(
     found: &mut Vec<Host, &'a Bump>,
 ) -> Result<(), NoMemory>
     requires good { IsGoodNetPart (sources_in scope) (net_part_seen part.now) }
-    requires written { All (λ x. IsNameIn (sources_in scope) x.name) found.old.items }
+    requires written { All (λ x. IsCalled kind.Host (sources_in scope) x.name) found.old.items }
     ensures said { OnOk result (map (host_seen (sources_in scope.entry)) found.new.items ≡ map (host_seen (sources_in scope.entry)) found.old.items ++ hosts_said net.0 (net_part_seen part.now)) }
-    ensures written { OnOk result (All (λ x. IsNameIn (sources_in scope.entry) x.name) found.new.items) }
+    ensures written { OnOk result (All (λ x. IsCalled kind.Host (sources_in scope.entry) x.name) found.new.items) }
 {
     let NetPart::Host { name, parts } = part else {
         return Ok(());

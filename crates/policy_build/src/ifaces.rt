@@ -7,7 +7,7 @@ ghost use Rattle.policy_decls.specs.Said.{number_of_tag, text_or_none, iface_sai
 ghost use Rattle.topology.specs.Texts.{LiesIn, text_at};
 ghost use Rattle.topology.specs.Seen.{iface_seen};
 ghost use Rattle.policy_build.specs.Views.{decls_of, sources_in};
-ghost use Rattle.policy_build.specs.Ifaces.{IsIfaceIn, iface_in, ifaces_said_in};
+ghost use Rattle.policy_build.specs.Ifaces.{IsRouterCalled, IsNetCalled, IsPartPlaced, IsPlaced, IsIfaceIn, iface_in, ifaces_said_in};
 ghost use Rattle.policy_build.specs.Words.{IsWordOf};
 ghost use Rattle.policy_build.specs.Good.{IsGoodIfPart, IsGoodRoutPart, IsGood};
 
@@ -22,9 +22,10 @@ use topology::Iface;
 
 /// The interfaces, by number.
 pub(crate) fn ifaces<'a>(scope: Scope<'a, '_>) -> Result<&'a [Iface<'a>], NoMemory>
-    requires { All (IsGood (sources_in scope)) (decls_of scope) }
+    requires good { All (IsGood (sources_in scope)) (decls_of scope) }
+    requires placed { All (IsPlaced (decls_of scope)) (decls_of scope) }
     ensures said { IfOk result (λ ifaces. map (iface_seen (sources_in scope.entry)) ifaces.now ≡ (policy_said (decls_of scope.entry)).ifaces) }
-    ensures written { IfOk result (λ ifaces. All (IsIfaceIn (sources_in scope.entry)) ifaces.now) }
+    ensures written { IfOk result (λ ifaces. All (IsIfaceIn (sources_in scope.entry) (decls_of scope.entry)) ifaces.now) }
 {
     let mut found = Vec::new(scope.arena);
     for decl in scope.decls {
@@ -39,9 +40,10 @@ fn add_ifaces<'a>(
     found: &mut Vec<Iface<'a>, &'a Bump>,
 ) -> Result<(), NoMemory>
     requires good { IsGood (sources_in scope) (decl_seen decl.now) }
-    requires written { All (IsIfaceIn (sources_in scope)) found.old.items }
+    requires placed { IsPlaced (decls_of scope) (decl_seen decl.now) }
+    requires written { All (IsIfaceIn (sources_in scope) (decls_of scope)) found.old.items }
     ensures said { OnOk result (map (iface_seen (sources_in scope.entry)) found.new.items ≡ map (iface_seen (sources_in scope.entry)) found.old.items ++ map (iface_said (decls_of scope.entry)) (ifaces_in (decl_seen decl.now))) }
-    ensures written { OnOk result (All (IsIfaceIn (sources_in scope.entry)) found.new.items) }
+    ensures written { OnOk result (All (IsIfaceIn (sources_in scope.entry) (decls_of scope.entry)) found.new.items) }
 {
     match decl {
         Decl::Router { name, parts, .. } => ifaces_of(scope, *name, parts, found),
@@ -57,10 +59,12 @@ fn ifaces_of<'a>(
     found: &mut Vec<Iface<'a>, &'a Bump>,
 ) -> Result<(), NoMemory>
     requires name { IsWordOf (sources_in scope) (word_seen router) }
+    requires called { IsRouterCalled (decls_of scope) (word_seen router) }
     requires good { All (IsGoodRoutPart (sources_in scope)) (map rout_part_seen parts.now) }
-    requires written { All (IsIfaceIn (sources_in scope)) found.old.items }
+    requires placed { All (IsPartPlaced (decls_of scope)) (map rout_part_seen parts.now) }
+    requires written { All (IsIfaceIn (sources_in scope) (decls_of scope)) found.old.items }
     ensures said { OnOk result (map (iface_seen (sources_in scope.entry)) found.new.items ≡ map (iface_seen (sources_in scope.entry)) found.old.items ++ flat_map (ifaces_said_in (decls_of scope.entry) (word_seen router.entry)) (map rout_part_seen parts.now)) }
-    ensures written { OnOk result (All (IsIfaceIn (sources_in scope.entry)) found.new.items) }
+    ensures written { OnOk result (All (IsIfaceIn (sources_in scope.entry) (decls_of scope.entry)) found.new.items) }
 {
     for part in parts {
         add_iface(scope, router, part, found)?;
@@ -75,10 +79,12 @@ fn add_iface<'a>(
     found: &mut Vec<Iface<'a>, &'a Bump>,
 ) -> Result<(), NoMemory>
     requires name { IsWordOf (sources_in scope) (word_seen router) }
+    requires called { IsRouterCalled (decls_of scope) (word_seen router) }
     requires good { IsGoodRoutPart (sources_in scope) (rout_part_seen part.now) }
-    requires written { All (IsIfaceIn (sources_in scope)) found.old.items }
+    requires placed { IsPartPlaced (decls_of scope) (rout_part_seen part.now) }
+    requires written { All (IsIfaceIn (sources_in scope) (decls_of scope)) found.old.items }
     ensures said { OnOk result (map (iface_seen (sources_in scope.entry)) found.new.items ≡ map (iface_seen (sources_in scope.entry)) found.old.items ++ ifaces_said_in (decls_of scope.entry) (word_seen router.entry) (rout_part_seen part.now)) }
-    ensures written { OnOk result (All (IsIfaceIn (sources_in scope.entry)) found.new.items) }
+    ensures written { OnOk result (All (IsIfaceIn (sources_in scope.entry) (decls_of scope.entry)) found.new.items) }
 {
     let RoutPart::Iface { name, parts } = part else {
         return Ok(());
@@ -98,9 +104,11 @@ fn iface<'a>(
 ) -> Result<Iface<'a>, NoMemory>
     requires router { IsWordOf (sources_in scope) (word_seen router) }
     requires net { IsWordOf (sources_in scope) (word_seen net) }
+    requires called { IsRouterCalled (decls_of scope) (word_seen router) }
+    requires placed { IsNetCalled (decls_of scope) (word_seen net) }
     requires parts { All (IsGoodIfPart (sources_in scope)) (map if_part_seen parts.now) }
     ensures said { IfOk result (λ iface. iface_seen (sources_in scope.entry) iface ≡ iface_in (decls_of scope.entry) (word_seen router.entry) (word_seen net.entry) (map if_part_seen parts.now)) }
-    ensures written { IfOk result (λ iface. IsIfaceIn (sources_in scope.entry) iface) }
+    ensures written { IfOk result (λ iface. IsIfaceIn (sources_in scope.entry) (decls_of scope.entry) iface) }
 {
     let binds = binds(scope, parts)?;
     Ok(Iface {

@@ -4,7 +4,8 @@ ghost use Rattle.spoc_base.specs.Shown.{cidr_of};
 ghost use Rattle.spoc_ast.specs.Seen.{word_seen, nat_part_seen, net_part_seen, decl_seen};
 ghost use Rattle.policy_decls.specs.Lookup.{ips_in_net_part, ips_in_nat_part, only_one, own_prefix};
 ghost use Rattle.policy_decls.specs.Said.{cidr_or_any, nats_said, adds_of, policy_said};
-ghost use Rattle.topology.specs.Texts.{IsNameIn};
+ghost use Rattle.spoc_base.specs.declared.place.Kind.TheVariants as kind;
+ghost use Rattle.topology.specs.Texts.{IsCalled};
 ghost use Rattle.topology.specs.Seen.{net_seen};
 ghost use Rattle.policy_build.specs.Views.{decls_of, sources_in, nat_seen};
 ghost use Rattle.policy_build.specs.Aligned.{aligned_prefix};
@@ -24,7 +25,7 @@ use topology::Network;
 pub(crate) fn networks<'a>(scope: Scope<'a, '_>) -> Result<&'a [Network<'a>], NoMemory>
     requires { All (IsGood (sources_in scope)) (decls_of scope) }
     ensures said { IfOk result (λ nets. map (net_seen (sources_in scope.entry)) nets.now ≡ (policy_said (decls_of scope.entry)).nets) }
-    ensures written { IfOk result (λ nets. All (λ x. IsNameIn (sources_in scope.entry) x.name) nets.now) }
+    ensures written { IfOk result (λ nets. All (λ x. IsCalled kind.Network (sources_in scope.entry) x.name) nets.now) }
 {
     let mut found = Vec::new(scope.arena);
     for decl in scope.decls {
@@ -40,7 +41,7 @@ fn add_network<'a>(
 ) -> Result<(), NoMemory>
     requires { IsGood (sources_in scope) (decl_seen decl.now) }
     ensures said { OnOk result (map (net_seen (sources_in scope.entry)) found.new.items ≡ map (net_seen (sources_in scope.entry)) found.old.items ++ (adds_of (decls_of scope.entry) (decl_seen decl.now)).nets) }
-    ensures written { OnOk result (All (λ x. IsNameIn (sources_in scope.entry) x.name) found.old.items → All (λ x. IsNameIn (sources_in scope.entry) x.name) found.new.items) }
+    ensures written { OnOk result (All (λ x. IsCalled kind.Network (sources_in scope.entry) x.name) found.old.items → All (λ x. IsCalled kind.Network (sources_in scope.entry) x.name) found.new.items) }
 {
     let Decl::Network { name, parts, .. } = decl else {
         return Ok(());
@@ -61,7 +62,7 @@ fn network<'a>(
     requires own { IsAligned (own_prefix (map net_part_seen parts.now)) }
     requires parts { All (IsGoodNetPart (sources_in scope)) (map net_part_seen parts.now) }
     ensures said { IfOk result (λ net. net_seen (sources_in scope.entry) net ≡ record { name = name.entry.text.now; own = cidr_or_any (own_prefix (map net_part_seen parts.now)); nats = flat_map (nats_said (decls_of scope.entry)) (map net_part_seen parts.now) }) }
-    ensures written { IfOk result (λ net. IsNameIn (sources_in scope.entry) net.name) }
+    ensures written { IfOk result (λ net. IsCalled kind.Network (sources_in scope.entry) net.name) }
 {
     let own = own(scope.alloc, parts)?;
     let nats = nats(scope, parts)?;

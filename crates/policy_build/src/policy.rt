@@ -8,6 +8,7 @@ ghost use Rattle.topology.specs.View.{policy_of, sources_of};
 ghost use Rattle.policy_build.specs.Views.{decls_of, sources_in};
 ghost use Rattle.policy_build.specs.Fair.{declares_fair};
 ghost use Rattle.policy_build.specs.Good.{IsGood};
+ghost use Rattle.policy_build.specs.Ifaces.{IsPlaced};
 ghost use Rattle.policy_build.specs.Rows.{owned_by};
 
 use crate::aggregates::aggregates;
@@ -30,6 +31,7 @@ use topology::{IfRows, Iface, Parts, Topo};
 pub(crate) fn policy<'a>(scope: Scope<'a, '_>) -> Result<Topo<'a>, NoMemory>
     requires good { All (IsGood (sources_in scope)) (decls_of scope) }
     requires fair { list_all declares_fair (decls_of scope) ≡ true }
+    requires placed { All (IsPlaced (decls_of scope)) (decls_of scope) }
     requires sound { IsSound (policy_said (decls_of scope)) }
     ensures policy { IfOk result (λ topo. policy_of topo ≡ policy_said (decls_of scope.entry)) }
     ensures sources { IfOk result (λ topo. sources_of topo ≡ sources_in scope.entry) }

@@ -2,7 +2,8 @@ ghost use Rattle.std.specs.Prelude.{◌≡◌, ◌++◌, [], ◌∷◌, map, IfO
 ghost use Rattle.std.specs.List.{All};
 ghost use Rattle.spoc_ast.specs.Seen.{port_seen, decl_seen};
 ghost use Rattle.policy_decls.specs.Said.{number_of_port, adds_of, policy_said};
-ghost use Rattle.topology.specs.Texts.{IsNameIn};
+ghost use Rattle.spoc_base.specs.declared.place.Kind.TheVariants as kind;
+ghost use Rattle.topology.specs.Texts.{IsCalled};
 ghost use Rattle.topology.specs.Seen.{restriction_seen};
 ghost use Rattle.policy_build.specs.Views.{decls_of, sources_in};
 ghost use Rattle.policy_build.specs.Good.{IsGood};
@@ -18,7 +19,7 @@ use topology::Restriction;
 pub(crate) fn restrictions<'a>(scope: Scope<'a, '_>) -> Result<&'a [Restriction<'a>], NoMemory>
     requires { All (IsGood (sources_in scope)) (decls_of scope) }
     ensures said { IfOk result (λ restrictions. map (restriction_seen (sources_in scope.entry)) restrictions.now ≡ (policy_said (decls_of scope.entry)).restrictions) }
-    ensures written { IfOk result (λ restrictions. All (λ x. IsNameIn (sources_in scope.entry) x.name) restrictions.now) }
+    ensures written { IfOk result (λ restrictions. All (λ x. IsCalled kind.Restriction (sources_in scope.entry) x.name) restrictions.now) }
 {
     let mut found = Vec::new(scope.arena);
     for decl in scope.decls {
@@ -33,9 +34,9 @@ fn add_restriction<'a>(
     found: &mut Vec<Restriction<'a>, &'a Bump>,
 ) -> Result<(), NoMemory>
     requires good { IsGood (sources_in scope) (decl_seen decl.now) }
-    requires written { All (λ x. IsNameIn (sources_in scope) x.name) found.old.items }
+    requires written { All (λ x. IsCalled kind.Restriction (sources_in scope) x.name) found.old.items }
     ensures said { OnOk result (map (restriction_seen (sources_in scope.entry)) found.new.items ≡ map (restriction_seen (sources_in scope.entry)) found.old.items ++ (adds_of (decls_of scope.entry) (decl_seen decl.now)).restrictions) }
-    ensures written { OnOk result (All (λ x. IsNameIn (sources_in scope.entry) x.name) found.new.items) }
+    ensures written { OnOk result (All (λ x. IsCalled kind.Restriction (sources_in scope.entry) x.name) found.new.items) }
 {
     let Decl::Restriction { name, ports, .. } = decl else {
         return Ok(());

@@ -5,7 +5,8 @@ ghost use Rattle.policy_model.specs.Lists.{is_nothing};
 ghost use Rattle.spoc_ast.specs.Seen.{rout_part_seen, decl_seen};
 ghost use Rattle.policy_decls.specs.Lookup.{is_managed_router, models_in, routings_in};
 ghost use Rattle.policy_decls.specs.Said.{dialect_in, device_in, adds_of, policy_said};
-ghost use Rattle.topology.specs.Texts.{IsNameIn};
+ghost use Rattle.spoc_base.specs.declared.place.Kind.TheVariants as kind;
+ghost use Rattle.topology.specs.Texts.{IsCalled};
 ghost use Rattle.topology.specs.Seen.{device_seen, router_seen};
 ghost use Rattle.policy_build.specs.Views.{decls_of, sources_in};
 ghost use Rattle.policy_build.specs.Good.{IsGood};
@@ -21,7 +22,7 @@ use topology::{Device, Router};
 pub(crate) fn routers<'a>(scope: Scope<'a, '_>) -> Result<&'a [Router], NoMemory>
     requires { All (IsGood (sources_in scope)) (decls_of scope) }
     ensures said { IfOk result (λ routers. map (router_seen (sources_in scope.entry)) routers.now ≡ (policy_said (decls_of scope.entry)).routers) }
-    ensures written { IfOk result (λ routers. All (λ x. IsNameIn (sources_in scope.entry) x.name) routers.now) }
+    ensures written { IfOk result (λ routers. All (λ x. IsCalled kind.Router (sources_in scope.entry) x.name) routers.now) }
 {
     let mut found = Vec::new(scope.arena);
     for decl in scope.decls {
@@ -36,9 +37,9 @@ fn add_router<'a>(
     found: &mut Vec<Router, &'a Bump>,
 ) -> Result<(), NoMemory>
     requires good { IsGood (sources_in scope) (decl_seen decl.now) }
-    requires written { All (λ x. IsNameIn (sources_in scope) x.name) found.old.items }
+    requires written { All (λ x. IsCalled kind.Router (sources_in scope) x.name) found.old.items }
     ensures said { OnOk result (map (router_seen (sources_in scope.entry)) found.new.items ≡ map (router_seen (sources_in scope.entry)) found.old.items ++ (adds_of (decls_of scope.entry) (decl_seen decl.now)).routers) }
-    ensures written { OnOk result (All (λ x. IsNameIn (sources_in scope.entry) x.name) found.new.items) }
+    ensures written { OnOk result (All (λ x. IsCalled kind.Router (sources_in scope.entry) x.name) found.new.items) }
 {
     let Decl::Router { name, parts, .. } = decl else {
         return Ok(());

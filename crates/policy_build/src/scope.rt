@@ -27,7 +27,7 @@ impl<'a, 't> Scope<'a, 't> {
     ghost use Rattle.policy_decls.specs.Said.{names_of, number_of_name, number_of_tag, number_of_port};
     ghost use Rattle.policy_names.specs.Seen.{kind_seen};
     ghost use Rattle.policy_build.specs.Views.{decls_of, sources_in};
-    ghost use Rattle.topology.specs.Texts.{name_at, IsNameIn};
+    ghost use Rattle.topology.specs.Texts.{name_at, IsCalled, IsIfaceCalled};
     ghost use Rattle.policy_build.specs.Words.{IsWordOf};
 
     /// The number of a name among those of its kind, None where it isn't declared.
@@ -69,7 +69,7 @@ impl<'a, 't> Scope<'a, 't> {
     pub(crate) fn named(self, kind: Kind, name: Word<'a>) -> Named
         requires { IsWordOf (sources_in self) (word_seen name) }
         ensures text { name_at (sources_in self.entry) result ≡ name.entry.text.now }
-        ensures written { IsNameIn (sources_in self.entry) result }
+        ensures written { IsCalled kind (sources_in self.entry) result }
     {
         Named::Plain(kind, name.span)
     }
@@ -79,7 +79,7 @@ impl<'a, 't> Scope<'a, 't> {
     pub(crate) fn port_named(self, port: PortName<'a>) -> Named
         requires router { IsWordOf (sources_in self) (word_seen port.router) }
         requires net { IsWordOf (sources_in self) (word_seen port.net) }
-        ensures { IsNameIn (sources_in self.entry) result }
+        ensures { IsIfaceCalled (sources_in self.entry) port.entry.router.text.now port.entry.net.text.now result }
     {
         Named::Iface(port.router.span, port.net.span)
     }

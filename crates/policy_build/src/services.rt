@@ -2,7 +2,8 @@ ghost use Rattle.std.specs.Prelude.{◌≡◌, ◌++◌, [], ◌∷◌, true, ma
 ghost use Rattle.std.specs.List.{All, list_all};
 ghost use Rattle.spoc_ast.specs.Seen as ast;
 ghost use Rattle.policy_decls.specs.Said.{policy_said};
-ghost use Rattle.topology.specs.Texts.{IsNameIn};
+ghost use Rattle.spoc_base.specs.declared.place.Kind.TheVariants as kind;
+ghost use Rattle.topology.specs.Texts.{IsCalled};
 ghost use Rattle.topology.specs.Seen.{rule_seen, service_seen};
 ghost use Rattle.policy_build.specs.Views.{decls_of, sources_in};
 ghost use Rattle.policy_build.specs.Fair.{declares_fair};
@@ -27,7 +28,7 @@ pub(crate) fn services<'a>(scope: Scope<'a, '_>) -> Result<&'a [Service<'a>], No
     requires good { All (IsGood (sources_in scope)) (decls_of scope) }
     requires fair { list_all declares_fair (decls_of scope) ≡ true }
     ensures said { IfOk result (λ services. map (service_seen (sources_in scope.entry)) services.now ≡ (policy_said (decls_of scope.entry)).services) }
-    ensures written { IfOk result (λ services. All (λ x. IsNameIn (sources_in scope.entry) x.name) services.now) }
+    ensures written { IfOk result (λ services. All (λ x. IsCalled kind.Service (sources_in scope.entry) x.name) services.now) }
 {
     let protocols = declared_protocols(scope)?;
     services_by(Expander {
@@ -41,7 +42,7 @@ fn services_by<'a>(by: Expander<'a, '_>) -> Result<&'a [Service<'a>], NoMemory>
     requires good { All (IsGood (sources_in by.scope)) (decls_of by.scope) }
     requires fair { list_all declares_fair (decls_of by.scope) ≡ true }
     ensures said { IfOk result (λ services. map (service_seen (sources_in by.entry.scope)) services.now ≡ flat_map (services_at (decls_of by.entry.scope) by.entry.depth) (decls_of by.entry.scope)) }
-    ensures written { IfOk result (λ services. All (λ x. IsNameIn (sources_in by.entry.scope) x.name) services.now) }
+    ensures written { IfOk result (λ services. All (λ x. IsCalled kind.Service (sources_in by.entry.scope) x.name) services.now) }
 {
     let mut found = Vec::new(by.scope.arena);
     for decl in by.scope.decls {
@@ -57,9 +58,9 @@ fn add_service<'a>(
 ) -> Result<(), NoMemory>
     requires good { IsGood (sources_in by.scope) (ast.decl_seen decl.now) }
     requires fair { list_all declares_fair (decls_of by.scope) ≡ true }
-    requires written { All (λ x. IsNameIn (sources_in by.scope) x.name) found.old.items }
+    requires written { All (λ x. IsCalled kind.Service (sources_in by.scope) x.name) found.old.items }
     ensures said { OnOk result (map (service_seen (sources_in by.entry.scope)) found.new.items ≡ map (service_seen (sources_in by.entry.scope)) found.old.items ++ services_at (decls_of by.entry.scope) by.entry.depth (ast.decl_seen decl.now)) }
-    ensures written { OnOk result (All (λ x. IsNameIn (sources_in by.entry.scope) x.name) found.new.items) }
+    ensures written { OnOk result (All (λ x. IsCalled kind.Service (sources_in by.entry.scope) x.name) found.new.items) }
 {
     let Decl::Service {
         name,

@@ -2,7 +2,8 @@ ghost use Rattle.std.specs.Prelude.{◌≡◌, map, fold, flat_map, IfOk, OnOk};
 ghost use Rattle.std.specs.List.{All};
 ghost use Rattle.spoc_ast.specs.Seen.{word_seen, net_part_seen, decl_seen};
 ghost use Rattle.policy_decls.specs.Said.{policy_said};
-ghost use Rattle.topology.specs.Texts.{IsNameIn};
+ghost use Rattle.spoc_base.specs.declared.place.Kind.TheVariants as kind;
+ghost use Rattle.topology.specs.Texts.{IsCalled};
 ghost use Rattle.topology.specs.Seen.{tag_seen};
 ghost use Rattle.policy_build.specs.Views.{decls_of, sources_in};
 ghost use Rattle.policy_build.specs.Words.{IsWordOf};
@@ -28,7 +29,7 @@ pub(crate) struct Known<'a> {
 pub(crate) fn tags<'a>(scope: Scope<'a, '_>) -> Result<&'a [Tag], NoMemory>
     requires { All (IsGood (sources_in scope)) (decls_of scope) }
     ensures said { IfOk result (λ tags. map (tag_seen (sources_in scope.entry)) tags.now ≡ (policy_said (decls_of scope.entry)).tags) }
-    ensures written { IfOk result (λ tags. All (λ x. IsNameIn (sources_in scope.entry) x.name) tags.now) }
+    ensures written { IfOk result (λ tags. All (λ x. IsCalled kind.Tag (sources_in scope.entry) x.name) tags.now) }
 {
     let mut known = Known {
         texts: Texts::new(scope.alloc),

@@ -2,7 +2,8 @@ use Rattle.std.proofs.Common.{◌≡◌, map, flat_map, drop, ◌++◌, slice_ge
 use Rattle.std.specs.List.{All}
 use Rattle.spoc_ast.specs.Seen.{net_part_seen}
 use Rattle.policy_decls.specs.Said.{hosts_said}
-use Rattle.topology.specs.Texts.{IsNameIn}
+use Rattle.spoc_base.specs.declared.place.Kind.TheVariants as kind
+use Rattle.topology.specs.Texts.{IsCalled}
 use Rattle.topology.specs.Seen.{host_seen}
 use Rattle.policy_build.specs.Views.{decls_of, sources_in, nat_seen}
 use Rattle.policy_build.proofs.hosts.hosts_of.Given as goal
@@ -10,5 +11,5 @@ use Rattle.policy_build.proofs.hosts.hosts_of.Given as goal
 abbrev pub invariant-loop-part : goal.invariant-loop-part
 invariant-loop-part l = record {
   said : map (host_seen (sources_in l.scope)) l.found.items ++ flat_map (hosts_said l.net.0) (map net_part_seen (drop l.part-index l.parts)) ≡ map (host_seen (sources_in l.scope)) l.initial.found.items ++ flat_map (hosts_said l.net.0) (map net_part_seen l.parts);
-  written : All (λ x. IsNameIn (sources_in l.scope) x.name) l.found.items;
+  written : All (λ x. IsCalled kind.Host (sources_in l.scope) x.name) l.found.items;
 }

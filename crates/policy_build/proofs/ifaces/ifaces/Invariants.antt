@@ -11,5 +11,5 @@ use Rattle.policy_build.proofs.ifaces.ifaces.Given as goal
 abbrev pub invariant-loop-decl : goal.invariant-loop-decl
 invariant-loop-decl l = record {
   said : map (iface_seen (sources_in l.scope)) l.found.items ++ map (iface_said (decls_of l.scope)) (declared_ifaces (map decl_seen (drop l.decl-index l.decl-items))) ≡ (policy_said (decls_of l.scope)).ifaces;
-  written : All (IsIfaceIn (sources_in l.scope)) l.found.items;
+  written : All (IsIfaceIn (sources_in l.scope) (decls_of l.scope)) l.found.items;
 }

@@ -1,7 +1,8 @@
 use Rattle.std.proofs.Common.{◌≡◌, map, flat_map, drop, ◌++◌, slice_get, fold, []}
 use Rattle.std.specs.List.{All}
 use Rattle.spoc_ast.specs.Seen.{decl_seen}
-use Rattle.topology.specs.Texts.{IsNameIn}
+use Rattle.spoc_base.specs.declared.place.Kind.TheVariants as kind
+use Rattle.topology.specs.Texts.{IsCalled}
 use Rattle.topology.specs.Seen.{service_seen}
 use Rattle.policy_build.specs.Services.{services_at}
 use Rattle.policy_build.specs.Views.{decls_of, sources_in}
@@ -10,5 +11,5 @@ use Rattle.policy_build.proofs.services.services_by.Given as goal
 abbrev pub invariant-loop-decl : goal.invariant-loop-decl
 invariant-loop-decl l = record {
   said : map (service_seen (sources_in l.by.scope)) l.found.items ++ flat_map (services_at (decls_of l.by.scope) l.by.depth) (map decl_seen (drop l.decl-index l.decl-items)) ≡ flat_map (services_at (decls_of l.by.scope) l.by.depth) (decls_of l.by.scope);
-  written : All (λ x. IsNameIn (sources_in l.by.scope) x.name) l.found.items;
+  written : All (λ x. IsCalled kind.Service (sources_in l.by.scope) x.name) l.found.items;
 }
