@@ -2,7 +2,7 @@
 use Rattle.std.proofs.Common.{◌≡◌, ◌∙◌, refl, sym, ap, subst, ℕ, ◌+◌, ◌<◌, length, drop, get_or, Bool, true, false, ◌&&◌, List, [], ◌∷◌, ◌++◌, map, flat_map, fold, append_assoc, Result, Ok, Err, OnOk, IfOk}
 use Rattle.std.specs.List.{All, list_all}
 use Rattle.std.proofs.lemmas.List.{drop_more}
-use Rattle.std.proofs.lemmas.List.Elements.{All-push}
+use Rattle.std.proofs.lemmas.List.Elements.{All-nil, All-cons, All-head, All-tail, All-push}
 
 module _ {A E : Type 0} where
   pub grown : (r : Result (Unit {0}) E) (now old more other : List A) → OnOk r (now ≡ old ++ more) → more ≡ other → OnOk r (now ≡ old ++ other)
@@ -57,3 +57,7 @@ pub fold_more : {A B C D : Type 0} (f : C → B → C) (g : D → List B) (seen 
 fold_more f g seen xs i d l old now all e h =
     ap (λ t. fold f t (flat_map g (map seen (drop (i + 1) xs)))) h ∙ sym (fold_append f old (g (seen (get_or xs i d))) (flat_map g (map seen (drop (i + 1) xs))))
     ∙ ap (λ ys. fold f old (flat_map g (map seen ys))) (sym (drop_more xs i d l)) ∙ e
+
+pub all_mapped : {A : Type 0} (f : A → ℕ) (n : ℕ) (xs : List A) → All (λ x. f x < n) xs → All (λ m. m < n) (map f xs)
+all_mapped f n [] h = All-nil (λ m. m < n)
+all_mapped f n (x ∷ xs) h = All-cons (λ m. m < n) (f x) (map f xs) (All-head (λ y. f y < n) x xs h) (all_mapped f n xs (All-tail (λ y. f y < n) x xs h))
