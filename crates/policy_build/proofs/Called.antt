@@ -1,14 +1,13 @@
 -- What is declared by a name, by the number of the name among those of its kind.
 use Rattle.std.specs.Option.{option_copied}
-use Rattle.std.proofs.Common.{arith, ◌<◌, Bor, is_some, IfSome, get_or, ◌≡◌, ◌∙◌, refl, sym, ap, ℕ, zero, suc, ◌+◌, ◌≤◌, Bool, true, false, cond, not, ◌&&◌, List, [], ◌∷◌, ◌++◌, length, map, flat_map, filter, position, nat_lt, Option, Some, None, option_map, option_and_then}
+use Rattle.std.proofs.Common.{arith, ◌<◌, Bor, is_some, IfSome, get_or, ◌≡◌, ◌∙◌, refl, sym, ap, ℕ, suc, ◌+◌, ◌≤◌, Bool, true, false, cond, not, ◌&&◌, List, [], ◌∷◌, ◌++◌, length, map, flat_map, filter, position, nat_lt, Option, Some, None, option_map, option_and_then}
 use Rattle.std.specs.Str.{bytes_eq}
 use Rattle.std.specs.List.{slice_get, position_or_len}
-use Rattle.std.proofs.lemmas.List.{length-map}
 use Rattle.std.proofs.lemmas.List.Elements.{filter-append}
 use Rattle.std.proofs.lemmas.Option.{slice_get_past, slice_get_read, slice_get-map}
 use Rattle.std.proofs.lemmas.Bool.Decides.{nat_tests}
-use Rattle.spoc_ast.specs.Written.{Lexeme, NetPartText, NetIp, NetHost, NetNat, NetIdle, RoutPartText, RoutManaged, RoutModel, RoutRouting, RoutIface, RoutIdle, PrtText, PrtSimple, DeclText, NetworkDecl, RouterDecl, GroupDecl, AreaDecl, AggregateDecl, ProtocolDecl, ProtocolGroupDecl, RestrictionDecl, ServiceDecl}
-use Rattle.policy_decls.specs.Names.{NameKind, ProtocolName, ProtocolGroupName, same_kind, number_of_kind, Mention, mention, names_in_net_part, names_in_rout_part, names_in, declared_names}
+use Rattle.spoc_ast.specs.Written.{Lexeme, NetPartText, NetIp, NetHost, NetNat, NetIdle, RoutPartText, RoutManaged, RoutModel, RoutRouting, RoutIface, RoutIdle, PrtText, DeclText, NetworkDecl, RouterDecl, GroupDecl, AreaDecl, AggregateDecl, ProtocolDecl, ProtocolGroupDecl, RestrictionDecl, ServiceDecl}
+use Rattle.policy_decls.specs.Names.{NameKind, ProtocolName, ProtocolGroupName, same_kind, Mention, mention, names_in_net_part, names_in_rout_part, names_in, declared_names}
 use Rattle.policy_decls.specs.Uses.{names_it}
 use Rattle.policy_decls.specs.Lookup.{first_given}
 use Rattle.policy_decls.specs.Said.{names_of, protocol_called, protocol_group_called}

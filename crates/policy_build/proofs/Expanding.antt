@@ -1,5 +1,5 @@
 -- What protocols permit, by their cases.
-use Rattle.std.proofs.Common.{arith, ◌≡◌, ◌∙◌, refl, sym, ap, ℕ, zero, suc, ◌+◌, ◌-◌, ◌<◌, List, [], ◌∷◌, ◌++◌, map, flat_map, Option, Some, None, Result, Ok, Err, OnOk, append-nil}
+use Rattle.std.proofs.Common.{arith, ◌≡◌, ◌∙◌, refl, sym, ap, ℕ, zero, suc, ◌-◌, ◌<◌, List, [], ◌∷◌, ◌++◌, map, flat_map, Some, None, Result, Ok, Err, OnOk, append-nil}
 use Rattle.std.proofs.lemmas.List.{map-append}
 use Rattle.spoc_base.specs.Shown.{box_of}
 use Rattle.spoc_base.specs.declared.transport.TBox.{TBox}

@@ -1,11 +1,10 @@
 -- Where no number of a protocol is out of range, boxes are what declarations say.
-use Rattle.std.proofs.Common.{◌≡◌, ◌∙◌, refl, sym, ap, ℕ, zero, suc, Bool, true, false, not, ◌&&◌, ◌||◌, cond, List, [], ◌∷◌, ◌++◌, map, flat_map, Option, Some, None, option_map, nat_lt}
+use Rattle.std.proofs.Common.{◌≡◌, ◌∙◌, refl, ap, ℕ, zero, suc, Bool, true, false, not, ◌&&◌, ◌||◌, cond, List, [], ◌∷◌, flat_map, Option, Some, None, option_map, nat_lt}
 use Rattle.std.specs.Str.{bytes_eq}
 use Rattle.std.specs.List.{list_all}
-use Rattle.spoc_base.specs.Boxes.{TransportBox, AnyTransport, TcpPorts, UdpPorts, IcmpTypes, ProtocolNumber}
-use Rattle.policy_model.specs.Policy as plain
+use Rattle.spoc_base.specs.Boxes.{AnyTransport, TcpPorts, UdpPorts, IcmpTypes, ProtocolNumber}
 use Rattle.policy_model.specs.Lists.{has}
-use Rattle.spoc_ast.specs.Written.{SimpleText, SimpleIp, SimpleTcp, SimpleUdp, SimpleIcmp, SimpleProto, PrtText, PrtSimple, PrtProtocol, PrtGroup, RuleText, DeclText, NetworkDecl, RouterDecl, GroupDecl, AreaDecl, AggregateDecl, ProtocolDecl, ProtocolGroupDecl, RestrictionDecl, ServiceDecl}
+use Rattle.spoc_ast.specs.Written.{SimpleText, SimpleIp, SimpleTcp, SimpleUdp, SimpleIcmp, SimpleProto, PrtText, PrtSimple, PrtProtocol, PrtGroup, DeclText, NetworkDecl, RouterDecl, GroupDecl, AreaDecl, AggregateDecl, ProtocolDecl, ProtocolGroupDecl, RestrictionDecl, ServiceDecl}
 use Rattle.policy_decls.specs.Numbers.{port_pair_of, icmp_of, number_of, spread, is_bad_range, is_bad_number, is_bad_protocol, is_bad_simple, holds_of, interval_from, box_or_any, box_in}
 use Rattle.policy_decls.specs.Lookup.{first_given, or_nothing}
 use Rattle.policy_decls.specs.Shapes.{is_bad_prt}

@@ -1,25 +1,24 @@
 -- Declarations without a fault, whose words are parts of the sources, give what building the policy needs.
-use Rattle.std.proofs.Common.{arith, ◌≡◌, ◌∙◌, refl, sym, ap, subst, inl, inr, ℕ, ◌<◌, ◌≤◌, Bool, true, false, not, ◌&&◌, ◌||◌, cond, nat_lt, List, [], ◌∷◌, ◌++◌, length, flat_map, slice_get, Option, Some, None, is_some, option_and_then}
+use Rattle.std.proofs.Common.{arith, ◌≡◌, ◌∙◌, refl, sym, ap, subst, inl, inr, ℕ, Bool, true, false, not, ◌||◌, cond, nat_lt, List, [], ◌∷◌, ◌++◌, flat_map, slice_get, Option, Some, None, is_some, option_and_then}
 use Rattle.std.specs.List.{All, list_any, list_all}
 use Rattle.std.proofs.lemmas.List.Elements.{All-nil, All-cons, All-head, All-tail}
 use Rattle.std.proofs.lemmas.Option.{none-some}
-use Rattle.std.proofs.lemmas.Bool.{false≢true, or_parts, and_from, false_from_ne_true, not-false, ltb-false}
-use Rattle.spoc_base.specs.Address.{Cidr}
+use Rattle.std.proofs.lemmas.Bool.{or_parts, and_from, not-false, ltb-false}
 use Rattle.spoc_base.specs.declared.place.Source.{Source}
 use Rattle.policy_model.proofs.AllWalks.{IsIn, in_front, in_back, in_flat_map}
-use Rattle.list_laws.proofs.Members.{some_in, each_in}
+use Rattle.list_laws.proofs.Members.{each_in}
 use Rattle.list_laws.proofs.Tables.{from_flat_map}
-use Rattle.spoc_ast.specs.Written.{Lexeme, SetText, NoParts, NetworkNamed, HostNamed, PortNamed, GroupNamed, AggregateNamed, AreaNamed, UserNamed, NetworksIn, HostsIn, ZonesIn, Joining, Keeping, Leaving, HostPartText, NatPartText, NatIp, NetPartText, NetIp, NetHost, NetNat, NetIdle, IfPartText, IfIp, IfHardware, IfBindNat, IfIdle, RoutPartText, RoutManaged, RoutModel, RoutRouting, RoutIface, RoutIdle, AnyPartText, PrtText, RuleText, DeclText, NetworkDecl, RouterDecl, GroupDecl, AreaDecl, AggregateDecl, ProtocolDecl, ProtocolGroupDecl, RestrictionDecl, ServiceDecl}
+use Rattle.spoc_ast.specs.Written.{Lexeme, SetText, NoParts, NetworkNamed, HostNamed, PortNamed, GroupNamed, AggregateNamed, AreaNamed, UserNamed, NetworksIn, HostsIn, ZonesIn, Joining, Keeping, Leaving, HostPartText, NatPartText, NatIp, NetPartText, NetIp, NetHost, NetNat, NetIdle, IfPartText, IfIp, IfHardware, IfBindNat, IfIdle, RoutPartText, RoutManaged, RoutModel, RoutRouting, RoutIface, RoutIdle, RuleText, DeclText, NetworkDecl, RouterDecl, GroupDecl, AreaDecl, AggregateDecl, ProtocolDecl, ProtocolGroupDecl, RestrictionDecl, ServiceDecl}
 use Rattle.policy_decls.specs.Numbers.{prefix_of, is_bad_simple}
 use Rattle.policy_decls.specs.Lookup.{ips_in_net_part, ips_in_nat_part, ips_in_nats, only_one, own_prefix}
-use Rattle.policy_decls.specs.Shapes.{has_one, hosts_in, nats_in, spans_in, is_bad_host, is_unaligned, asked_in, sets_in_rule, sets_in_objects, ask_unaligned, is_bad_prt, ips_in_any_part, is_bad_aggregate, lacks_user, name_bare_port, first_true, shape_in}
+use Rattle.policy_decls.specs.Shapes.{has_one, hosts_in, nats_in, spans_in, is_bad_host, is_unaligned, asked_in, sets_in_rule, sets_in_objects, ask_unaligned, is_bad_prt, ips_in_any_part}
 use Rattle.policy_decls.specs.Said.{first_prefix, range_or_none}
 use Rattle.policy_decls.specs.Formed.{says_prefix, is_formed_nat, is_formed_net, is_formed}
 use Rattle.policy_decls.specs.Faults.{first_shape}
 use Rattle.decl_laws.proofs.Shaped.{none_in, its_only, shape_of, formed_in, NetShape, net_shape}
-use Rattle.policy_build.specs.Words.{IsWordOf, IsNetPartOf, IsIfPartOf, IsRoutPartOf, IsDeclOf}
-use Rattle.policy_build.specs.Aligned.{if_aligned, is_aligned_word, asks_aligned}
-use Rattle.policy_build.specs.Fair.{are_fair, declares_fair}
+use Rattle.policy_build.specs.Words.{IsNetPartOf, IsIfPartOf, IsRoutPartOf, IsDeclOf}
+use Rattle.policy_build.specs.Aligned.{is_aligned_word, asks_aligned}
+use Rattle.policy_build.specs.Fair.{declares_fair}
 use Rattle.policy_build.specs.Good.{IsAligned, IsOrdered, IsGoodNetPart, IsGoodIfPart, IsGoodRoutPart, asks_aligned_objects, IsGoodRule, IsGood}
 use Rattle.policy_build.proofs.Unions.{where_aligned}
 

@@ -1,8 +1,7 @@
 -- What is good of all declarations, of each of them.
-use Rattle.std.proofs.Common.{◌≡◌, sym, ap, subst, ℕ, ◌<◌, List, length, map, get_or}
+use Rattle.std.proofs.Common.{◌≡◌, sym, subst, ℕ, ◌<◌, List, length, map, get_or}
 use Rattle.std.specs.List.{All}
 use Rattle.std.proofs.lemmas.List.{length-map, get_or-map}
-use Rattle.std.proofs.lemmas.List.Elements.{All-get_or}
 use Rattle.spoc_base.specs.declared.place.Source.{Source}
 use Rattle.spoc_ast.specs.declared.decl.Decl.{Decl}
 use Rattle.spoc_ast.specs.declared.decl.NetPart.{NetPart}

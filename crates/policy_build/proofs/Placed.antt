@@ -1,10 +1,10 @@
 -- Routers and networks of interfaces stand at the numbers of their names, where declarations have no fault.
-use Rattle.std.proofs.Common.{◌≡◌, ◌∙◌, inl, refl, sym, ap, ℕ, ◌<◌, true, List, [], ◌∷◌, length, map, get_or, None, IsTrue}
+use Rattle.std.proofs.Common.{◌≡◌, ◌∙◌, inl, refl, sym, ap, List, [], map, get_or, None, IsTrue}
 use Rattle.std.specs.Prelude.{flat_map}
 use Rattle.std.specs.List.{All}
 use Rattle.std.proofs.Math.ListN as whole
 use Rattle.std.proofs.lemmas.List.{get_or-map}
-use Rattle.policy_model.specs.Policy.{Net, Router, no_net, no_router, net_of, router_of}
+use Rattle.policy_model.specs.Policy.{no_net, no_router}
 use Rattle.policy_model.proofs.AllWalks.{IsIn, in_flat_map}
 use Rattle.spoc_ast.specs.Written.{Lexeme, RoutPartText, RoutManaged, RoutModel, RoutRouting, RoutIface, RoutIdle, DeclText, NetworkDecl, RouterDecl, GroupDecl, AreaDecl, AggregateDecl, ProtocolDecl, ProtocolGroupDecl, RestrictionDecl, ServiceDecl}
 use Rattle.policy_decls.specs.Names.{NameKind, NetworkName, RouterName, Mention, mention}

@@ -1,10 +1,9 @@
 -- What declarations without a fault give to those that build the policy.
-use Rattle.std.specs.Prelude.{◌≡◌, ◌≤◌, ℕ, Bool, true, List, flat_map, slice_get, Option, Some, None, is_some, option_and_then}
+use Rattle.std.specs.Prelude.{◌≡◌, ◌≤◌, Bool, true, List, flat_map, slice_get, Option, Some, None, is_some, option_and_then}
 use Rattle.std.specs.List.{All}
 use Rattle.spoc_base.specs.Address.{Cidr, Interval}
 use Rattle.spoc_base.specs.declared.place.Source.{Source}
-use Rattle.topology.specs.Texts.{LiesIn, text_at}
-use Rattle.spoc_ast.specs.Written.{Lexeme, SetText, NetPartText, NetIp, NetHost, NetNat, NetIdle, IfPartText, IfIp, IfHardware, IfBindNat, IfIdle, RoutPartText, RoutManaged, RoutModel, RoutRouting, RoutIface, RoutIdle, RuleText, DeclText, NetworkDecl, RouterDecl, GroupDecl, AreaDecl, AggregateDecl, ProtocolDecl, ProtocolGroupDecl, RestrictionDecl, ServiceDecl}
+use Rattle.spoc_ast.specs.Written.{SetText, NetPartText, NetIp, NetHost, NetNat, NetIdle, IfPartText, IfIp, IfHardware, IfBindNat, IfIdle, RoutPartText, RoutManaged, RoutModel, RoutRouting, RoutIface, RoutIdle, RuleText, DeclText, NetworkDecl, RouterDecl, GroupDecl, AreaDecl, AggregateDecl, ProtocolDecl, ProtocolGroupDecl, RestrictionDecl, ServiceDecl}
 use Rattle.policy_decls.specs.Lookup.{own_prefix, ips_in_nat_part}
 use Rattle.policy_decls.specs.Shapes.{spans_in, ips_in_any_part}
 use Rattle.policy_decls.specs.Said.{first_prefix, range_or_none}

@@ -1,5 +1,5 @@
 -- The interfaces of a router.
-use Rattle.std.specs.Prelude.{◌≡◌, ℕ, List, [], ◌∷◌, map, flat_map, slice_get, option_and_then}
+use Rattle.std.specs.Prelude.{◌≡◌, List, [], ◌∷◌, map, flat_map, slice_get, option_and_then}
 use Rattle.std.specs.List.{All}
 use Rattle.spoc_base.specs.declared.place.Source.{Source}
 use Rattle.policy_model.specs.Policy as plain

@@ -16,7 +16,6 @@ mod policy;
 mod protocols;
 mod restrictions;
 mod routers;
-
 mod scope;
 mod services;
 mod sets;

@@ -1,8 +1,6 @@
-use Rattle.std.proofs.Common.{◌≡◌, map, flat_map, drop, ◌++◌, slice_get, fold}
-use Rattle.std.specs.List.{All}
+use Rattle.std.proofs.Common.{◌≡◌, map, flat_map, drop, slice_get}
 use Rattle.spoc_ast.specs.Seen.{any_part_seen}
 use Rattle.policy_decls.specs.Shapes.{ips_in_any_part}
-use Rattle.policy_build.specs.Views.{decls_of, sources_in}
 use Rattle.policy_build.proofs.aggregates.first_ip.Given as goal
 
 abbrev pub invariant-loop-part : goal.invariant-loop-part

@@ -1,9 +1,8 @@
-use Rattle.std.proofs.Common.{◌≡◌, map, flat_map, drop, ◌++◌, slice_get, fold}
-use Rattle.std.specs.List.{All}
+use Rattle.std.proofs.Common.{◌≡◌, map, flat_map, drop, ◌++◌}
 use Rattle.spoc_ast.specs.Seen.{area_part_seen}
 use Rattle.policy_decls.specs.Shapes.{borders_in}
 use Rattle.policy_decls.specs.Said.{number_of_port}
-use Rattle.policy_build.specs.Views.{decls_of, sources_in}
+use Rattle.policy_build.specs.Views.{decls_of}
 use Rattle.policy_build.proofs.areas.borders.Given as goal
 
 abbrev pub invariant-loop-part : goal.invariant-loop-part

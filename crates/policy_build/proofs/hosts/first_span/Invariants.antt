@@ -1,8 +1,6 @@
-use Rattle.std.proofs.Common.{◌≡◌, map, flat_map, drop, ◌++◌, slice_get}
-use Rattle.std.specs.List.{All}
+use Rattle.std.proofs.Common.{◌≡◌, map, flat_map, drop, slice_get}
 use Rattle.spoc_ast.specs.Seen.{host_part_seen}
 use Rattle.policy_decls.specs.Shapes.{spans_in}
-use Rattle.policy_build.specs.Views.{decls_of, sources_in, nat_seen}
 use Rattle.policy_build.proofs.hosts.first_span.Given as goal
 
 abbrev pub invariant-loop-part : goal.invariant-loop-part

@@ -1,11 +1,11 @@
-use Rattle.std.proofs.Common.{◌≡◌, map, flat_map, drop, ◌++◌, slice_get}
+use Rattle.std.proofs.Common.{◌≡◌, map, flat_map, drop, ◌++◌}
 use Rattle.std.specs.List.{All}
 use Rattle.spoc_ast.specs.Seen.{net_part_seen}
 use Rattle.policy_decls.specs.Said.{hosts_said}
 use Rattle.spoc_base.specs.declared.place.Kind.TheVariants as kind
 use Rattle.topology.specs.Texts.{IsCalled}
 use Rattle.topology.specs.Seen.{host_seen}
-use Rattle.policy_build.specs.Views.{decls_of, sources_in, nat_seen}
+use Rattle.policy_build.specs.Views.{sources_in}
 use Rattle.policy_build.proofs.hosts.hosts_of.Given as goal
 
 abbrev pub invariant-loop-part : goal.invariant-loop-part

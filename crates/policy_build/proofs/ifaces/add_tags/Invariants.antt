@@ -1,8 +1,7 @@
-use Rattle.std.proofs.Common.{◌≡◌, map, flat_map, drop, ◌++◌, slice_get, not, codes}
-use Rattle.std.specs.List.{All, list_any}
+use Rattle.std.proofs.Common.{◌≡◌, map, drop, ◌++◌}
 use Rattle.spoc_ast.specs.Seen.{word_seen}
 use Rattle.policy_decls.specs.Said.{number_of_tag}
-use Rattle.policy_build.specs.Views.{decls_of, sources_in}
+use Rattle.policy_build.specs.Views.{decls_of}
 use Rattle.policy_build.proofs.ifaces.add_tags.Given as goal
 
 abbrev pub invariant-loop-tag : goal.invariant-loop-tag

@@ -1,8 +1,6 @@
-use Rattle.std.proofs.Common.{◌≡◌, map, flat_map, drop, ◌++◌, slice_get, not, codes}
-use Rattle.std.specs.List.{All, list_any}
+use Rattle.std.proofs.Common.{◌≡◌, map, flat_map, drop, slice_get}
 use Rattle.spoc_ast.specs.Seen.{if_part_seen}
 use Rattle.policy_decls.specs.Lookup.{addresses_in}
-use Rattle.policy_build.specs.Views.{decls_of, sources_in}
 use Rattle.policy_build.proofs.ifaces.first_ip.Given as goal
 
 abbrev pub invariant-loop-part : goal.invariant-loop-part

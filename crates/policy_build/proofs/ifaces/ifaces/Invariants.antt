@@ -1,5 +1,5 @@
-use Rattle.std.proofs.Common.{◌≡◌, map, flat_map, drop, ◌++◌, slice_get, not, codes}
-use Rattle.std.specs.List.{All, list_any}
+use Rattle.std.proofs.Common.{◌≡◌, map, drop, ◌++◌}
+use Rattle.std.specs.List.{All}
 use Rattle.spoc_ast.specs.Seen.{decl_seen}
 use Rattle.policy_decls.specs.Lookup.{declared_ifaces}
 use Rattle.policy_decls.specs.Said.{iface_said, policy_said}

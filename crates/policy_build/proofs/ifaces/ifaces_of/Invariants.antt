@@ -1,5 +1,5 @@
-use Rattle.std.proofs.Common.{◌≡◌, map, flat_map, drop, ◌++◌, slice_get, not, codes}
-use Rattle.std.specs.List.{All, list_any}
+use Rattle.std.proofs.Common.{◌≡◌, map, flat_map, drop, ◌++◌}
+use Rattle.std.specs.List.{All}
 use Rattle.spoc_ast.specs.Seen.{rout_part_seen, word_seen}
 use Rattle.topology.specs.Seen.{iface_seen}
 use Rattle.policy_build.specs.Ifaces.{IsIfaceIn, ifaces_said_in}

@@ -1,8 +1,7 @@
-use Rattle.std.proofs.Common.{◌≡◌, map, flat_map, drop, ◌++◌, slice_get}
-use Rattle.std.specs.List.{All}
+use Rattle.std.proofs.Common.{◌≡◌, map, flat_map, drop, ◌++◌}
 use Rattle.spoc_ast.specs.Seen.{net_part_seen}
 use Rattle.policy_decls.specs.Said.{nats_said}
-use Rattle.policy_build.specs.Views.{decls_of, sources_in, nat_seen}
+use Rattle.policy_build.specs.Views.{decls_of, nat_seen}
 use Rattle.policy_build.proofs.nets.nats.Given as goal
 
 abbrev pub invariant-loop-part : goal.invariant-loop-part

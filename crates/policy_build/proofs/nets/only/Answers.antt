@@ -1,4 +1,4 @@
-use Rattle.std.proofs.Common.{ap, sym, option_and_then, map}
+use Rattle.std.proofs.Common.{ap, sym, option_and_then}
 use Rattle.spoc_ast.specs.Seen.{word_seen}
 use Rattle.policy_build.specs.Aligned.{aligned_prefix}
 use Rattle.policy_build.proofs.Firsts.{not_alone}

@@ -1,8 +1,7 @@
-use Rattle.std.proofs.Common.{◌≡◌, map, flat_map, drop, ◌++◌, slice_get, fold}
-use Rattle.std.specs.List.{All}
+use Rattle.std.proofs.Common.{◌≡◌, map, drop, ◌++◌}
 use Rattle.spoc_ast.specs.Seen.{port_seen}
 use Rattle.policy_decls.specs.Said.{number_of_port}
-use Rattle.policy_build.specs.Views.{decls_of, sources_in}
+use Rattle.policy_build.specs.Views.{decls_of}
 use Rattle.policy_build.proofs.restrictions.add_ports.Given as goal
 
 abbrev pub invariant-loop-port : goal.invariant-loop-port

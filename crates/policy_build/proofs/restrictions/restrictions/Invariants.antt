@@ -1,4 +1,4 @@
-use Rattle.std.proofs.Common.{◌≡◌, map, flat_map, drop, ◌++◌, slice_get, fold}
+use Rattle.std.proofs.Common.{◌≡◌, map, flat_map, drop, ◌++◌}
 use Rattle.std.specs.List.{All}
 use Rattle.spoc_ast.specs.Seen.{decl_seen}
 use Rattle.policy_decls.specs.Said.{adds_of, policy_said}

@@ -1,9 +1,8 @@
-use Rattle.std.proofs.Common.{◌≡◌, map, flat_map, drop, ◌++◌, slice_get, not, codes}
-use Rattle.std.specs.List.{All, list_any}
+use Rattle.std.proofs.Common.{◌≡◌, map, flat_map, drop, codes}
+use Rattle.std.specs.List.{list_any}
 use Rattle.std.specs.Str.{bytes_eq}
 use Rattle.spoc_ast.specs.Seen.{rout_part_seen}
 use Rattle.policy_decls.specs.Lookup.{models_in}
-use Rattle.policy_build.specs.Views.{decls_of, sources_in}
 use Rattle.policy_build.proofs.routers.has_asa.Given as goal
 
 abbrev pub invariant-loop-part : goal.invariant-loop-part

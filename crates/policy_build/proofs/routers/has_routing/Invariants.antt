@@ -1,9 +1,7 @@
-use Rattle.std.proofs.Common.{◌≡◌, map, flat_map, drop, ◌++◌, slice_get, not, codes}
-use Rattle.std.specs.List.{All, list_any}
+use Rattle.std.proofs.Common.{◌≡◌, map, flat_map, drop}
 use Rattle.policy_model.specs.Lists.{is_nothing}
 use Rattle.spoc_ast.specs.Seen.{rout_part_seen}
 use Rattle.policy_decls.specs.Lookup.{routings_in}
-use Rattle.policy_build.specs.Views.{decls_of, sources_in}
 use Rattle.policy_build.proofs.routers.has_routing.Given as goal
 
 abbrev pub invariant-loop-part : goal.invariant-loop-part

@@ -1,5 +1,5 @@
-use Rattle.std.proofs.Common.{◌≡◌, map, flat_map, drop, ◌++◌, slice_get, not, codes}
-use Rattle.std.specs.List.{All, list_any}
+use Rattle.std.proofs.Common.{◌≡◌, map, flat_map, drop, ◌++◌}
+use Rattle.std.specs.List.{All}
 use Rattle.spoc_ast.specs.Seen.{decl_seen}
 use Rattle.policy_decls.specs.Said.{adds_of, policy_said}
 use Rattle.spoc_base.specs.declared.place.Kind.TheVariants as kind

@@ -1,9 +1,8 @@
-use Rattle.std.proofs.Common.{◌≡◌, map, flat_map, drop, ◌++◌, slice_get, fold, []}
-use Rattle.std.specs.List.{All}
+use Rattle.std.proofs.Common.{◌≡◌, map, drop, ◌++◌}
 use Rattle.spoc_ast.specs.Seen as ast
 use Rattle.topology.specs.Seen.{rule_seen}
 use Rattle.policy_build.specs.Services.{rule_at}
-use Rattle.policy_build.specs.Views.{decls_of, sources_in}
+use Rattle.policy_build.specs.Views.{decls_of}
 use Rattle.policy_build.proofs.services.rules_of.Given as goal
 
 abbrev pub invariant-loop-rule : goal.invariant-loop-rule

@@ -1,4 +1,4 @@
-use Rattle.std.proofs.Common.{arith, ◌≡◌, ◌∙◌, ap, map}
+use Rattle.std.proofs.Common.{arith, ◌≡◌, map}
 use Rattle.std.proofs.lemmas.Grind.{common_steps}
 use Rattle.spoc_ast.specs.declared.set.SetTree.{out-SetTree}
 use Rattle.spoc_ast.specs.declared.set.InterTree.{out-InterTree}

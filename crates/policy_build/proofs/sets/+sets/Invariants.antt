@@ -1,8 +1,5 @@
 use Rattle.std.proofs.Common.{◌≡◌, map, drop, ◌++◌}
-use Rattle.topology.specs.Expressions.{part_of, term_of}
-use Rattle.spoc_ast.specs.declared.set.InterTree.{out-InterTree}
-use Rattle.spoc_ast.specs.Seen.{term_seen}
-use Rattle.policy_decls.specs.Said.{expr_in}
+use Rattle.topology.specs.Expressions.{part_of}
 use Rattle.policy_build.specs.Views.{decls_of}
 use Rattle.policy_build.proofs.Rows.{further_of}
 use Rattle.policy_build.proofs.Unions.{part_in, further_in}

@@ -1,5 +1,4 @@
-use Rattle.std.proofs.Common.{◌≡◌, map, flat_map, drop, ◌++◌, slice_get, fold, []}
-use Rattle.std.specs.List.{All}
+use Rattle.std.proofs.Common.{◌≡◌, map, flat_map, drop, fold, []}
 use Rattle.spoc_ast.specs.Seen.{decl_seen}
 use Rattle.policy_build.specs.Tags.{IsKnown, with_text, tag_texts}
 use Rattle.policy_build.specs.Views.{decls_of, sources_in}

@@ -1,8 +1,7 @@
-use Rattle.std.proofs.Common.{◌≡◌, map, flat_map, drop, ◌++◌, slice_get, fold, []}
-use Rattle.std.specs.List.{All}
+use Rattle.std.proofs.Common.{◌≡◌, map, flat_map, drop, fold}
 use Rattle.spoc_ast.specs.Seen.{net_part_seen}
 use Rattle.policy_build.specs.Tags.{IsKnown, with_text, tag_texts_in}
-use Rattle.policy_build.specs.Views.{decls_of, sources_in}
+use Rattle.policy_build.specs.Views.{sources_in}
 use Rattle.policy_build.proofs.tags.tags_of.Given as goal
 
 abbrev pub invariant-loop-part : goal.invariant-loop-part

@@ -1,7 +1,7 @@
-use Rattle.std.proofs.Common.{◌<◌, ◌∙◌, ap, sym, arith, ◌++◌, map}
+use Rattle.std.proofs.Common.{◌<◌, sym, arith, map}
 use Rattle.spoc_ast.specs.Seen.{prt_seen, word_seen}
 use Rattle.policy_build.specs.Views.{decls_of}
-use Rattle.policy_build.proofs.Expanding.{shallow, of_group, of_no_group, same}
+use Rattle.policy_build.proofs.Expanding.{of_group, of_no_group, same}
 use Rattle.policy_build.proofs.Grown.{grown}
 use Rattle.policy_build.proofs.expand.Expander.+expand.Goals as goal
 

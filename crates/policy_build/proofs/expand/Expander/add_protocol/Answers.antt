@@ -1,7 +1,7 @@
-use Rattle.std.proofs.Common.{◌<◌, ◌∙◌, ap, sym, arith, ◌++◌}
+use Rattle.std.proofs.Common.{◌<◌, sym, arith}
 use Rattle.spoc_ast.specs.Seen.{simple_seen, word_seen}
 use Rattle.policy_build.specs.Views.{decls_of}
-use Rattle.policy_build.proofs.Expanding.{shallow, of_protocol, of_no_protocol, same}
+use Rattle.policy_build.proofs.Expanding.{of_protocol, of_no_protocol, same}
 use Rattle.policy_build.proofs.Grown.{grown}
 use Rattle.policy_build.proofs.expand.Expander.add_protocol.Goals as goal
 

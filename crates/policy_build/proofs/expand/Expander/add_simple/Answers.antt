@@ -1,8 +1,6 @@
-use Rattle.std.proofs.Common.{◌∙◌, ap, sym, map, ◌++◌}
-use Rattle.spoc_base.specs.Shown.{box_of}
 use Rattle.spoc_ast.specs.Seen.{simple_seen}
 use Rattle.policy_build.specs.Views.{decls_of}
-use Rattle.policy_build.proofs.Expanding.{of_simple, pushed}
+use Rattle.policy_build.proofs.Expanding.{pushed}
 use Rattle.policy_build.proofs.expand.Expander.add_simple.Goals as goal
 
 pub returns : goal.returns

@@ -1,9 +1,9 @@
-use Rattle.std.proofs.Common.{◌≡◌, ◌∙◌, ap, sym, map, [], ◌∷◌, option_and_then, option_map}
+use Rattle.std.proofs.Common.{◌∙◌, ap, sym, [], ◌∷◌, option_and_then, option_map}
 use Rattle.std.specs.List.{slice_get}
 use Rattle.spoc_ast.specs.Written.{PrtSimple}
-use Rattle.spoc_ast.specs.Seen.{word_seen, simple_seen, prt_seen}
+use Rattle.spoc_ast.specs.Seen.{word_seen, simple_seen}
 use Rattle.policy_build.specs.Views.{decls_of}
-use Rattle.policy_build.specs.Protocols.{protocols_in, groups_in}
+use Rattle.policy_build.specs.Protocols.{protocols_in}
 use Rattle.policy_build.proofs.Called.{protocol_at, looked_up, copied_at}
 use Rattle.policy_build.proofs.protocols.Protocols.simple.Goals as goal
 
