@@ -1,14 +1,15 @@
 ghost use Rattle.std.specs.Prelude.{◌≡◌, Some, None, IfOk, IfErr};
 ghost use Rattle.policy_decls.specs.Names.{declared_names};
-ghost use Rattle.policy_decls.specs.Faults.{name_twice, name_unknown, name_on_circle, first_shape, fault_of};
+ghost use Rattle.policy_decls.specs.Faults.{name_twice, fault_of};
 ghost use Rattle.policy_names.specs.Seen.{decls_of};
 ghost use Rattle.topology.specs.First.{IsRefusalOf};
 
 use crate::limits::first_limit;
 use policy_names::{NameTable, first_unknown, name_table};
 use policy_nesting::first_on_circle;
+use policy_shapes::first_shape;
 use spoc_ast::File;
-use spoc_base::{Fault, Named, NoMemory, Refusal};
+use spoc_base::{Fault, NoMemory, Refusal};
 use std::alloc::Global;
 
 /// The table of the names of declarations without a fault; or their first fault, or want of memory.
@@ -50,15 +51,4 @@ fn further_fault<'a>(
         Some(what) => Ok(Some(Fault::Limit { what })),
         None => Ok(None),
     }
-}
-
-fn first_shape<'a>(
-    alloc: Global,
-    table: &NameTable<'a>,
-    files: &[File<'a>],
-) -> Result<Option<(u8, Named)>, NoMemory>
-    requires { table.now ≡ declared_names (decls_of files.now) }
-    ensures { IfOk result (λ found. found ≡ first_shape (decls_of files.now)) }
-{
-    Err(NoMemory)
 }

@@ -6,5 +6,7 @@ mod entry;
 mod faults;
 mod lengths;
 mod limits;
+#[cfg(test)]
+mod tests;
 
 pub use entry::resolve;
