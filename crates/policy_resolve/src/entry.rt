@@ -1,18 +1,17 @@
 ghost use Rattle.std.specs.Prelude.{◌≡◌, Some, None, IfOk, IfErr, IsTrue};
-ghost use Rattle.policy_decls.specs.Names.{declared_names};
 ghost use Rattle.policy_decls.specs.Faults.{fault_of};
 ghost use Rattle.policy_decls.specs.Formed.{are_formed};
 ghost use Rattle.policy_decls.specs.Said.{policy_said};
 ghost use Rattle.policy_names.specs.Seen.{decls_of};
 ghost use Rattle.topology.specs.First.{IsRefusalOf};
 ghost use Rattle.topology.specs.View.{policy_of, sources_of};
-ghost use Rattle.policy_resolve.specs.Words.{AreWordsOf};
+ghost use Rattle.policy_build.specs.Words.{AreWordsOf};
 
 use crate::faults::names_of;
 use bumpalo::Bump;
-use policy_names::NameTable;
+use policy_build::build;
 use spoc_ast::File;
-use spoc_base::{NoMemory, Refusal, Source};
+use spoc_base::{Refusal, Source};
 use std::alloc::Global;
 use topology::Topo;
 
@@ -38,22 +37,4 @@ pub fn resolve<'a>(
 {
     let table = names_of(alloc, files)?;
     Ok(build(alloc, arena, &table, sources, files)?)
-}
-
-// In place of the call of the crate below, until it is there.
-fn build<'a>(
-    _alloc: Global,
-    _arena: &'a Bump,
-    table: &NameTable<'a>,
-    sources: &'a [Source],
-    files: &[File<'a>],
-) -> Result<Topo<'a>, NoMemory>
-    requires named { table.now ≡ declared_names (decls_of files.now) }
-    requires faultless { fault_of (decls_of files.now) ≡ None }
-    requires formed { IsTrue (are_formed (decls_of files.now)) }
-    requires words { AreWordsOf sources.now (decls_of files.now) }
-    ensures policy { IfOk result (λ topo. policy_of topo ≡ policy_said (decls_of files.now)) }
-    ensures sources { IfOk result (λ topo. sources_of topo ≡ sources.entry.now) }
-{
-    Err(NoMemory)
 }
