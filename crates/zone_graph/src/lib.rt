@@ -10,7 +10,7 @@ mod laws;
 pub mod marks;
 pub mod tags;
 
-pub use laws::zones_are_counted;
 pub use graph::{ZoneGraph, zones};
+pub use laws::zones_are_counted;
 pub use marks::{Crossing, Link, MarkTable, PairMarks};
 pub use tags::TagTable;
