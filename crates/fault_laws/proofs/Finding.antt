@@ -14,11 +14,11 @@ use Rattle.fault_laws.proofs.Joins.{none_isnt_some, some_isnt_none, same_fault}
 -- The faults of a row are those of the listed things that pass.
 pub record AreListed (m : Meaning) (r : ℕ) (A : Type 0) (as_fault : A → FaultCase) (test : A → Bool) (items : List A) (Before : A → A → Type 0) : Type 0 where
   pub row : (x : A) → row_of (as_fault x) ≡ r
-  pub each : (f : FaultCase) → row_of f ≡ r → (x : A) × (f ≡ as_fault x)
+  pub each : (f : FaultCase) → row_of f ≡ r → HasFault m f → (x : A) × (f ≡ as_fault x)
   pub sound : (x : A) → IsIn x items → test x ≡ true → HasFault m (as_fault x)
   pub listed : (x : A) → HasFault m (as_fault x) → IsIn x items × (test x ≡ true)
   pub order : InOrder Before items
-  pub lower : (x y : A) → Before x y → is_lower (order_of (permits_in m) (as_fault x)) (order_of (permits_in m) (as_fault y)) ≡ true
+  pub lower : (x y : A) → test x ≡ true → test y ≡ true → Before x y → is_lower (order_of (permits_in m) (as_fault x)) (order_of (permits_in m) (as_fault y)) ≡ true
 
 module _ (m : Meaning) where
   abbrev NotBefore : FaultCase → FaultCase → Type 0
@@ -42,7 +42,7 @@ module _ (m : Meaning) where
     -- the listed thing of a fault of the row
     its_item : (f : FaultCase) → IsWithin r r f → HasFault m f → (x : A) × (f ≡ as_fault x) × IsIn x items × (test x ≡ true)
     its_item f within h =
-        let v = w.each f (of_row r f within) in
+        let v = w.each f (of_row r f within) h in
         let l = w.listed v.0 (subst (λ (g : FaultCase). HasFault m g) v.1 h) in
         (v.0, v.1, l.0, l.1)
 
@@ -56,7 +56,7 @@ module _ (m : Meaning) where
       first = λ g within h.
           let u = its_item g within h in
           subst (λ (f : FaultCase). NotBefore f (as_fault x)) (sym u.1)
-          (⊎_elim (λ same. subst (λ (y : A). NotBefore (as_fault y) (as_fault x)) (sym same) (not_itself (as_fault x))) (λ before. not_before (as_fault x) (as_fault u.0) (w.lower x u.0 before)) (v.first u.0 u.2 u.3));
+          (⊎_elim (λ same. subst (λ (y : A). NotBefore (as_fault y) (as_fault x)) (sym same) (not_itself (as_fault x))) (λ before. not_before (as_fault x) (as_fault u.0) (w.lower x u.0 v.passes u.3 before)) (v.first u.0 u.2 u.3));
     }
 
     -- the first fault is the one that is found
@@ -65,7 +65,7 @@ module _ (m : Meaning) where
         let u = its_item f first.within first.there in
         ⊎_elim (λ same. ap as_fault (sym same) ∙ sym u.1)
         (λ before. absurd (false≢true (sym (not-true (is_lower (order_of (permits_in m) (as_fault x)) (order_of (permits_in m) f)) (first.first (as_fault x) (in_row r (as_fault x) (w.row x)) (w.sound x v.listed v.passes)))
-        ∙ subst (λ (g : FaultCase). is_lower (order_of (permits_in m) (as_fault x)) (order_of (permits_in m) g) ≡ true) (sym u.1) (w.lower x u.0 before))))
+        ∙ subst (λ (g : FaultCase). is_lower (order_of (permits_in m) (as_fault x)) (order_of (permits_in m) g) ≡ true) (sym u.1) (w.lower x u.0 v.passes u.3 before))))
         (v.first u.0 u.2 u.3)
 
     by_found : (o : Option A) → find test items ≡ o → IsFirstCase m r r (option_map as_fault o)

@@ -75,6 +75,7 @@ hidden_net _ = 0
 abbrev shape : ℕ → FaultCase → FaultCase
 shape r f =
     cond (r == 0) (AreaSplit (value 1 f) (value 2 f))
+    (cond (r == 1) (NatConflict (value 2 f) (value 1 f))
     (cond (r == 2) (NatTwice (value 2 f) (value 1 f) (value 3 f) (value 4 f))
     (cond (r == 3) (NatInside (value 1 f) (value 2 f))
     (cond (r == 4) LimitViews
@@ -84,7 +85,7 @@ shape r f =
     (cond (r == 9) (NoPath (value 1 f) (value 2 f))
     (cond (r == 10) (HiddenEnd (value 1 f) (hidden_net f) (value 2 f))
     (cond (r == 11) LimitLines
-    (cond (r == 12) LimitRoutes f))))))))))
+    (cond (r == 12) LimitRoutes f)))))))))))
 
 its_shape : (f : FaultCase) → f ≡ shape (row_of f) f
 its_shape (AreaSplit area border) = refl
@@ -110,6 +111,9 @@ at_row r f e = its_shape f ∙ ap (λ (k : ℕ). shape k f) e
 
 pub at_split : (f : FaultCase) → row_of f ≡ 0 → f ≡ AreaSplit (value 1 f) (value 2 f)
 at_split f e = at_row 0 f e
+
+pub at_conflict : (f : FaultCase) → row_of f ≡ 1 → f ≡ NatConflict (value 2 f) (value 1 f)
+at_conflict f e = at_row 1 f e
 
 pub at_twice : (f : FaultCase) → row_of f ≡ 2 → f ≡ NatTwice (value 2 f) (value 1 f) (value 3 f) (value 4 f)
 at_twice f e = at_row 2 f e

@@ -4,6 +4,7 @@ use Rattle.std.specs.Prelude.{◌==◌, nat_lt, flat_map, slice_index_or, option
 use Rattle.std.specs.List.{list_any, list_all}
 use Rattle.std.proofs.lemmas.Bool.{and_parts, ltb-true, eqb-true, false≢true, cases_lt}
 use Rattle.std.proofs.lemmas.List.{get_or_past}
+use Rattle.spoc_base.specs.Boxes.{TransportBox}
 use Rattle.spoc_base.specs.Address.{Cidr, is_inside}
 use Rattle.policy_model.specs.Lists.{has, once_each, numbers_below}
 use Rattle.policy_model.specs.Policy.{Policy, Group, Rule, Service, ObjectExpr, NoObjects, OneNet, OneHost, OneIface, OfGroup, OfAggregate, OfArea, OfUser, NetsOf, HostsOf, ZonesOf, Joined, Common, Without, no_group, net_of, host_of, iface_of, group_of, aggregate_of, net_at, router_at, is_managed, all_nets, all_hosts}
@@ -193,13 +194,17 @@ module _ (s : Site) (sound : IsSound s.policy) (count : ℕ) (nets : length s.po
     abbrev Between : Permit → Type 0
     Between q = (q.src.net < count) × (q.dst.net < count)
 
+    boxes_there : (src dst : End) → src.net < count → dst.net < count → (boxes : List TransportBox) → AllIn Between (map (λ box. record { src = src; dst = dst; box = box }) boxes)
+    boxes_there src dst here there boxes q h =
+        let w = from_map (λ box. record { src = src; dst = dst; box = box }) q boxes h in
+        subst Between (sym {b = record { src = src; dst = dst; box = w.0 }} w.2) (here, there)
+
     rule_there : (user : List Object) → AllIn There user → (rule : Rule) → is_sound_rule p rule ≡ true → AllIn Between (rule_permits s areas user rule)
     rule_there user in_user rule ok q h =
         let ends = ends_sound rule ok in
         let a = from_flat_map (λ src. flat_map (λ dst. map (λ box. record { src = src; dst = dst; box = box }) rule.boxes) (ends_in s areas user rule.dst)) q (ends_in s areas user rule.src) h in
         let b = from_flat_map (λ dst. map (λ box. record { src = a.0; dst = dst; box = box }) rule.boxes) q (ends_in s areas user rule.dst) a.2 in
-        let c = from_map (λ box. record { src = a.0; dst = b.0; box = box }) q rule.boxes b.2 in
-        subst Between (sym c.2) (ends_in_there user in_user rule.src ends.0 a.0 a.1, ends_in_there user in_user rule.dst ends.1 b.0 b.1)
+        boxes_there a.0 b.0 (ends_in_there user in_user rule.src ends.0 a.0 a.1) (ends_in_there user in_user rule.dst ends.1 b.0 b.1) rule.boxes q b.2
 
     pub permit_there : (q : Permit) → IsIn q (permits_of s areas) → Between q
     permit_there q h =

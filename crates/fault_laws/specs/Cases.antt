@@ -1,15 +1,19 @@
 -- The first fault of a policy as functions of its meaning, one for each row of faults whose test computes. Where policy_model says by a relation which
 -- fault counts, this says how to find it: the things that a fault may name are listed in the order in which faults are compared, and the first that
 -- passes the test is taken.
-use Rattle.std.specs.Prelude.{◌≡◌, ℕ, ◌<◌, ◌↔◌, Bool, ◌&&◌, ◌==◌, nat_lt, if◌then◌else◌, List, ◌++◌, length, map, fold, find, slice_index_or, Option, Some, None, option_map, is_some, IsTrue}
+use Rattle.std.specs.Prelude.{◌≡◌, ℕ, ◌<◌, ◌↔◌, Bool, true, false, not, ◌&&◌, ◌==◌, nat_lt, if◌then◌else◌, List, [], ◌∷◌, ◌++◌, length, map, fold, find, slice_index_or, Option, Some, None, option_map, is_some, IsTrue}
 use Rattle.std.specs.Option.{option_or}
 use Rattle.std.specs.List.{list_any, list_all}
 use Rattle.policy_model.specs.Lists.{numbers_below, pairs_of}
-use Rattle.policy_model.specs.Policy.{Policy, Service, net_of, all_nets, all_routers, all_ifaces, all_tags}
-use Rattle.policy_model.specs.Zones.{Site, zone_count}
-use Rattle.policy_model.specs.Faults.{is_split, is_translated_twice, is_translated_inside, view_count, is_same_prefix, has_managed_end, has_no_path}
-use Rattle.policy_model.specs.FirstFault.{FaultCase, AreaSplit, NatTwice, NatInside, LimitViews, SamePrefix, ManagedEnd, LimitPermits, NoPath, LimitLines, LimitRoutes, ViewPlace, AtZone, AtRouter, view_at, most_views, most_items, line_count, route_count, no_service}
+use Rattle.policy_model.specs.Policy.{Policy, Service, net_of, router_at, all_nets, all_routers, all_ifaces, all_tags}
+use Rattle.policy_model.specs.Zones.{Site, zone_at, zone_count}
+use Rattle.policy_model.specs.Tags.{binds, keeps_tag}
+use Rattle.policy_model.specs.Permits.{Permit}
+use Rattle.policy_model.specs.Blocks.{permit_at}
+use Rattle.policy_model.specs.Faults.{is_split, is_translated_twice, is_translated_inside, view_count, is_same_prefix, has_managed_end, has_no_path, is_hidden_end}
+use Rattle.policy_model.specs.FirstFault.{FaultCase, AreaSplit, NatConflict, NatTwice, NatInside, LimitViews, SamePrefix, ManagedEnd, LimitPermits, NoPath, HiddenEnd, LimitLines, LimitRoutes, ViewPlace, AtZone, AtRouter, view_at, most_views, most_items, line_count, route_count, no_service}
 use Rattle.policy_model.specs.Headline.{Meaning, permits_in}
+use Rattle.meaning_laws.specs.Tables.{reaches, is_in_force}
 use Rattle.topology.specs.First.{HasNone, IsFirstWithin}
 
 -- ---- what a function of this page is to find
@@ -53,6 +57,23 @@ abbrev pub split_case : Meaning → Option FaultCase
 split_case m = first_case (λ e. AreaSplit e.0 e.1) (λ e. is_split m.site m.areas e.0 e.1) (pairs_of (all_areas m.site.policy) (all_ifaces m.site.policy))
 
 -- ---- translation
+
+-- The second interface binds the tag, and the first one, of the same router, doesn't.
+abbrev pub is_other_side : Policy → ℕ → ℕ → ℕ → Bool
+is_other_side p tag i binder = (router_at p i == router_at p binder) && not (binds p i tag) && binds p binder tag
+
+-- The tag must not be in force in the zone: a chain leads there from the other side of a router that binds it.
+abbrev pub is_barred : Site → ℕ → ℕ → Bool
+is_barred s z tag =
+    list_any (λ e. is_other_side s.policy tag e.0 e.1 && reaches s.policy (keeps_tag s.policy tag) (zone_at s) (zone_at s e.0) z)
+    (pairs_of (all_ifaces s.policy) (all_ifaces s.policy))
+
+abbrev pub is_conflicting : Site → ℕ → ℕ → Bool
+is_conflicting s z tag = is_in_force s z tag && is_barred s z tag
+
+-- a zone and a tag that is in force there and must not be
+abbrev pub conflict_case : Meaning → Option FaultCase
+conflict_case m = first_case (λ e. NatConflict e.1 e.0) (λ e. is_conflicting m.site e.0 e.1) (pairs_of (all_zones m.site) (all_tags m.site.policy))
 
 -- a zone and a network, and two tags of the network that are in force there
 abbrev pub twice_case : Meaning → Option FaultCase
@@ -98,6 +119,19 @@ lacks_path m u w = list_any (λ q. (q.src.net == u) && (q.dst.net == w) && has_n
 -- two networks with such a permit
 abbrev pub path_case : Meaning → Option FaultCase
 path_case m = first_case (λ e. NoPath e.0 e.1) (λ e. lacks_path m e.0 e.1) (pairs_of (all_nets m.site.policy) (all_nets m.site.policy))
+
+-- the network of a permit's source, or of its destination
+abbrev pub end_net : Permit → Bool → ℕ
+end_net q is_dst = if is_dst then q.dst.net else q.src.net
+
+abbrev pub is_end_hidden : Meaning → ℕ → ℕ → Bool → Bool
+is_end_hidden m k z is_dst = is_hidden_end m.site m.views (permit_at (permits_in m) k) (end_net (permit_at (permits_in m) k) is_dst) z
+
+-- a permit, and a zone of an allowed walk of it in which its source is hidden, or its destination
+abbrev pub hidden_case : Meaning → Option FaultCase
+hidden_case m =
+    first_case (λ e. HiddenEnd e.0.0 (end_net (permit_at (permits_in m) e.0.0) e.1) e.0.1) (λ e. is_end_hidden m e.0.0 e.0.1 e.1)
+    (pairs_of (pairs_of (numbers_below (length (permits_in m))) (all_zones m.site)) (false ∷ true ∷ []))
 
 -- too many lines before they are optimised
 abbrev pub lines_case : Meaning → Option FaultCase

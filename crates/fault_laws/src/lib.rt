@@ -6,9 +6,12 @@
 mod joined;
 mod rows;
 
-pub use joined::{faults_are_joined, first_fault_of_services, first_fault_of_walks};
+pub use joined::{
+    faults_are_joined, first_fault_of_services, first_fault_of_tags, first_fault_of_walks,
+    first_fault_of_walks_where_nothing_is_hidden,
+};
 pub use rows::{
-    first_inside, first_managed_end, first_same_prefix, first_split, first_translated_twice,
-    first_without_path, lines_past_the_limit, permits_past_the_limit, routes_past_the_limit,
-    views_past_the_limit,
+    first_conflict, first_hidden_end, first_inside, first_managed_end, first_same_prefix,
+    first_split, first_translated_twice, first_without_path, lines_past_the_limit,
+    permits_past_the_limit, routes_past_the_limit, views_past_the_limit,
 };

@@ -80,13 +80,13 @@ module _ (s : Site) where
   abbrev p : Policy
   p = s.policy
 
-  keeps_through : (tag : ℕ) (c : Crossing) → keeps_tag p tag c ≡ true → is_through_router p c ≡ true
+  pub keeps_through : (tag : ℕ) (c : Crossing) → keeps_tag p tag c ≡ true → is_through_router p c ≡ true
   keeps_through tag c h =
       let a = and_parts (crosses_managed p c && not (binds p c.enter tag)) (not (binds p c.leave tag)) h in
       let b = and_parts (crosses_managed p c) (not (binds p c.enter tag)) a.0 in
       (and_parts (is_through_router p c) (is_managed p (router_at p c.enter)) b.0).0
 
-  active_if : (z tag : ℕ) → IsActive s tag z → is_in_force s z tag ≡ true
+  pub active_if : (z tag : ℕ) → IsActive s tag z → is_in_force s z tag ≡ true
   active_if z tag a =
       some_of (λ i. binds p i tag && reaches p (keeps_tag p tag) (zone_at s) (zone_at s i) z) a.iface (all_ifaces p) (in_numbers (length p.ifaces) a.iface a.there)
       (and_from (binds p a.iface tag) (reaches p (keeps_tag p tag) (zone_at s) (zone_at s a.iface) z) a.bound
@@ -97,7 +97,7 @@ module _ (s : Site) where
   from_numbers a (suc n) k (inl e) = omega (arith, e)
   from_numbers a (suc n) k (inr h) = let g = from_numbers (a + 1) n k h in omega (arith, g)
 
-  if_active : (z tag : ℕ) → is_in_force s z tag ≡ true → IsActive s tag z
+  pub if_active : (z tag : ℕ) → is_in_force s z tag ≡ true → IsActive s tag z
   if_active z tag h =
       let w = some_in (λ i. binds p i tag && reaches p (keeps_tag p tag) (zone_at s) (zone_at s i) z) (all_ifaces p) h in
       let i : ℕ = w.0 in
