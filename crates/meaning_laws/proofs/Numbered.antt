@@ -1,11 +1,10 @@
 -- Numbers for the classes of an equivalence that a test decides: from 0, by the least members.
-use Rattle.std.proofs.Common.{◌≡◌, ℕ, zero, suc, ◌+◌, ◌<◌, inl, inr, Bool, true, cond, List, [], ◌∷◌, length, map, refl, sym, ap, subst, ◌∙◌, ⊎_elim, arith}
-use Rattle.std.specs.Prelude.{◌↔◌, ◌==◌, slice_index_or}
+use Rattle.std.proofs.Common.{◌≡◌, ℕ, zero, suc, ◌+◌, ◌<◌, ◌≤◌, inl, inr, Bool, true, false, cond, List, [], ◌∷◌, length, map, Option, Some, refl, sym, ap, subst, ◌∙◌, ⊎_elim, arith}
+use Rattle.std.specs.Prelude.{◌↔◌, ◌==◌, slice_index_or, fold, find, count_by, unwrap_or}
 use Rattle.std.specs.List.{list_any, range_with_len}
-use Rattle.std.proofs.lemmas.Bool.{or_left, or_right, eq-eqb, ne_eqb, false≢true, cases_Bool, cases_eq}
+use Rattle.std.proofs.lemmas.Bool.{or_left, or_right, eqb-true, eq-eqb, false≢true, cases_Bool, cases_eq, cases_order}
 use Rattle.policy_model.specs.Lists.{numbers_below}
-use Rattle.policy_model.proofs.AllWalks.{IsIn, in_numbers}
-use Rattle.policy_model.proofs.Tested.{some_below}
+use Rattle.policy_model.proofs.AllWalks.{IsIn}
 
 pub some_of : {A : Type 0} (test : A → Bool) (x : A) (xs : List A) → IsIn x xs → test x ≡ true → list_any test xs ≡ true
 some_of test x [] h t = absurd h
@@ -28,126 +27,128 @@ pub record IsEquivalence (same : ℕ → ℕ → Bool) : Type 0 where
   pub back : (n m : ℕ) → same n m ≡ true → same m n ≡ true
   pub onward : (n m k : ℕ) → same n m ≡ true → same m k ≡ true → same n k ≡ true
 
--- the classes below n, numbered from 0 by their least members
-pub record AreNumbered (same : ℕ → ℕ → Bool) (n : ℕ) : Type 0 where
-  pub number : ℕ → ℕ
-  pub count : ℕ
-  pub alike : (i j : ℕ) → i < n → j < n → (number i ≡ number j) ↔ (same i j ≡ true)
-  pub below : (i : ℕ) → i < n → number i < count
-  pub each : (z : ℕ) → z < count → (i : ℕ) × (i < n) × (number i ≡ z)
-  pub lower : (i z : ℕ) → i < n → z < number i → (j : ℕ) × (j < i) × (number j ≡ z)
+-- ---- the first number that passes
 
--- one more, with this number
-abbrev with_number : (ℕ → ℕ) → ℕ → ℕ → ℕ → ℕ
-with_number f n z i = cond (i == n) z (f i)
+-- the first number of a range that passes, or else d
+pub record IsFirstOr (test : ℕ → Bool) (a d k : ℕ) : Type 0 where
+  pub below : k ≤ d
+  pub passes : (k ≡ d → ⊥) → test k ≡ true
+  pub none : (j : ℕ) → a ≤ j → j < k → test j ≡ false
 
-module _ (same : ℕ → ℕ → Bool) (laws : IsEquivalence same) (n : ℕ) (old : AreNumbered same n) where
-  at_old : (z i : ℕ) → i < n → with_number old.number n z i ≡ old.number i
-  at_old z i h = ap (λ b. cond b z (old.number i)) (ne_eqb i n (λ e. absurd (omega arith)))
-
-  at_new : (z i : ℕ) → i ≡ n → with_number old.number n z i ≡ z
-  at_new z i e = ap (λ b. cond b z (old.number i)) (eq-eqb i n e)
-
-  -- it is in the class of an earlier one
-  joins : (k : ℕ) → k < n → same k n ≡ true → AreNumbered same (suc n)
-  joins k hk joined =
-      let z = old.number k in
-      let f = with_number old.number n z in
-      record {
-        number = f;
-        count = old.count;
-        alike = λ i j hi hj. ⊎_elim
-            (λ ei. ⊎_elim
-            (λ ej. (λ e. subst (λ (x : ℕ). same i x ≡ true) (ei ∙ sym ej) (laws.itself i), λ s. at_new z i ei ∙ sym (at_new z j ej)))
-            (λ nj. let lj : j < n = omega arith in (
-              λ e. let kj = (old.alike k j hk lj).0 (sym (at_new z i ei) ∙ (e ∙ at_old z j lj)) in
-                  subst (λ (x : ℕ). same x j ≡ true) (sym ei) (laws.onward n k j (laws.back k n joined) kj),
-              λ s. let nj_same : same n j ≡ true = subst (λ (x : ℕ). same x j ≡ true) ei s in
-                  at_new z i ei ∙ ((old.alike k j hk lj).1 (laws.onward k n j joined nj_same) ∙ sym (at_old z j lj)),
-            ))
-            (cases_eq j n))
-            (λ ni. let li : i < n = omega arith in
-            ⊎_elim
-            (λ ej. (
-              λ e. let ik = (old.alike i k li hk).0 (sym (at_old z i li) ∙ (e ∙ at_new z j ej)) in
-                  subst (λ (x : ℕ). same i x ≡ true) (sym ej) (laws.onward i k n ik joined),
-              λ s. let in_same : same i n ≡ true = subst (λ (x : ℕ). same i x ≡ true) ej s in
-                  at_old z i li ∙ ((old.alike i k li hk).1 (laws.onward i n k in_same (laws.back k n joined)) ∙ sym (at_new z j ej)),
-            ))
-            (λ nj. let lj : j < n = omega arith in
-            (λ e. (old.alike i j li lj).0 (sym (at_old z i li) ∙ (e ∙ at_old z j lj)), λ s. at_old z i li ∙ ((old.alike i j li lj).1 s ∙ sym (at_old z j lj))))
-            (cases_eq j n))
-            (cases_eq i n);
-        below = λ i hi. ⊎_elim
-            (λ ei. subst (λ (x : ℕ). x < old.count) (sym (at_new z i ei)) (old.below k hk))
-            (λ ni. let li : i < n = omega arith in subst (λ (x : ℕ). x < old.count) (sym (at_old z i li)) (old.below i li))
-            (cases_eq i n);
-        each = λ y hy. let w = old.each y hy in (w.0, omega (arith, w.1), at_old z w.0 w.1 ∙ w.2);
-        lower = λ i y hi hy. ⊎_elim
-            (λ ei. let w = old.lower k y hk (subst (λ (x : ℕ). y < x) (at_new z i ei) hy) in
-            let lw : w.0 < n = omega (arith, w.1) in (w.0, omega (arith, w.1), at_old z w.0 lw ∙ w.2))
-            (λ ni. let li : i < n = omega arith in
-            let w = old.lower i y li (subst (λ (x : ℕ). y < x) (at_old z i li) hy) in
-            let lw : w.0 < n = omega (arith, w.1) in (w.0, w.1, at_old z w.0 lw ∙ w.2))
-            (cases_eq i n);
-      }
-
-  -- it is in a class of its own
-  starts : ((k : ℕ) → k < n → same k n ≡ true → ⊥) → AreNumbered same (suc n)
-  starts alone =
-      let z = old.count in
-      let f = with_number old.number n z in
-      record {
-        number = f;
-        count = suc old.count;
-        alike = λ i j hi hj. ⊎_elim
-            (λ ei. ⊎_elim
-            (λ ej. (λ e. subst (λ (x : ℕ). same i x ≡ true) (ei ∙ sym ej) (laws.itself i), λ s. at_new z i ei ∙ sym (at_new z j ej)))
-            (λ nj. let lj : j < n = omega arith in (
-              λ e. absurd (let b = old.below j lj in let q : z ≡ old.number j = sym (at_new z i ei) ∙ (e ∙ at_old z j lj) in omega (arith, b, q)),
-              λ s. absurd (alone j lj (laws.back n j (subst (λ (x : ℕ). same x j ≡ true) ei s))),
-            ))
-            (cases_eq j n))
-            (λ ni. let li : i < n = omega arith in
-            ⊎_elim
-            (λ ej. (
-              λ e. absurd (let b = old.below i li in let q : old.number i ≡ z = sym (at_old z i li) ∙ (e ∙ at_new z j ej) in omega (arith, b, q)),
-              λ s. absurd (alone i li (subst (λ (x : ℕ). same i x ≡ true) ej s)),
-            ))
-            (λ nj. let lj : j < n = omega arith in
-            (λ e. (old.alike i j li lj).0 (sym (at_old z i li) ∙ (e ∙ at_old z j lj)), λ s. at_old z i li ∙ ((old.alike i j li lj).1 s ∙ sym (at_old z j lj))))
-            (cases_eq j n))
-            (cases_eq i n);
-        below = λ i hi. ⊎_elim
-            (λ ei. let e = at_new z i ei in omega (arith, e))
-            (λ ni. let li : i < n = omega arith in let e = at_old z i li in let b = old.below i li in omega (arith, e, b))
-            (cases_eq i n);
-        each = λ y hy. ⊎_elim
-            (λ ey. (n, omega arith, at_new z n refl ∙ sym ey))
-            (λ ny. let ly : y < old.count = omega arith in let w = old.each y ly in (w.0, omega (arith, w.1), at_old z w.0 w.1 ∙ w.2))
-            (cases_eq y old.count);
-        lower = λ i y hi hy. ⊎_elim
-            (λ ei. let ly : y < old.count = subst (λ (x : ℕ). y < x) (at_new z i ei) hy in
-            let w = old.each y ly in (w.0, omega (arith, w.1, ei), at_old z w.0 w.1 ∙ w.2))
-            (λ ni. let li : i < n = omega arith in
-            let w = old.lower i y li (subst (λ (x : ℕ). y < x) (at_old z i li) hy) in
-            let lw : w.0 < n = omega (arith, w.1) in (w.0, w.1, at_old z w.0 lw ∙ w.2))
-            (cases_eq i n);
-      }
-
-  one_more : AreNumbered same (suc n)
-  one_more =
-      ⊎_elim (λ some. let w = some_below (λ k. same k n) n some in joins w.0 w.1 w.2)
-      (λ none. starts (λ k h s. false≢true (sym none ∙ some_of (λ k. same k n) k (numbers_below n) (in_numbers n k h) s)))
-      (cases_Bool (list_any (λ k. same k n) (numbers_below n)))
-
-pub numbered : (same : ℕ → ℕ → Bool) → IsEquivalence same → (n : ℕ) → AreNumbered same n
-numbered same laws zero = record {
-  number = λ i. i;
-  count = 0;
-  alike = λ i j hi hj. absurd (omega arith);
-  below = λ i hi. absurd (omega arith);
-  each = λ z hz. absurd (omega arith);
-  lower = λ i z hi hz. absurd (omega arith);
+first_step : (test : ℕ → Bool) (a d : ℕ) (rest : Option ℕ) → a ≤ d → IsFirstOr test (a + 1) d (unwrap_or rest d) → (b : Bool) → test a ≡ b → IsFirstOr test a d (unwrap_or (cond b (Some a) rest) d)
+first_step test a d rest low later true e = record { below = low; passes = λ ne. e; none = λ j least high. absurd (omega arith) }
+first_step test a d rest low later false e = record {
+  below = later.below;
+  passes = later.passes;
+  none = λ j least high. ⊎_elim (λ h. ap test h ∙ e) (λ ne. later.none j (omega arith) high) (cases_eq j a);
 }
-numbered same laws (suc n) = one_more same laws n (numbered same laws n)
+
+is_first : (test : ℕ → Bool) (a n d : ℕ) → d ≡ a + n → IsFirstOr test a d (unwrap_or (find test (range_with_len a n)) d)
+is_first test a zero d e = record { below = omega arith; passes = λ ne. absurd (ne refl); none = λ j low high. absurd (omega arith) }
+is_first test a (suc n) d e = first_step test a d (find test (range_with_len (a + 1) n)) (omega arith) (is_first test (a + 1) n d (omega arith)) (test a) refl
+
+-- ---- how many of the numbers pass
+
+abbrev one_if : Bool → ℕ
+one_if b = cond b 1 0
+
+-- a fold over one number more
+fold_next : {B : Type 0} (f : B → ℕ → B) (b : B) (a n : ℕ) → fold f b (range_with_len a (suc n)) ≡ f (fold f b (range_with_len a n)) (a + n)
+fold_next f b a zero = let e : a ≡ a + 0 = omega arith in ap (f b) e
+fold_next f b a (suc n) = let e : (a + 1) + n ≡ a + suc n = omega arith in fold_next f (f b a) (a + 1) n ∙ ap (f (fold f (f b a) (range_with_len (a + 1) n))) e
+
+module _ (test : ℕ → Bool) where
+  -- how many below k pass
+  abbrev count : ℕ → ℕ
+  count k = count_by test (numbers_below k)
+
+  next : (k : ℕ) (b : Bool) → test k ≡ b → count (suc k) ≡ count k + one_if b
+  next k b h =
+      let z : 0 + k ≡ k = omega arith in
+      fold_next (λ (x j : ℕ). x + one_if (test j)) 0 0 k ∙ ap (λ (x : ℕ). count k + x) (ap (λ (j : ℕ). one_if (test j)) z ∙ ap one_if h)
+
+  one_more : (k : ℕ) → test k ≡ true → count (suc k) ≡ count k + 1
+  one_more k h = next k true h
+
+  no_more : (k : ℕ) → test k ≡ false → count (suc k) ≡ count k
+  no_more k h = let e = next k false h in omega (arith, e)
+
+  step_up : (k : ℕ) → count k ≤ count (suc k)
+  step_up k = ⊎_elim (λ t. let e = one_more k t in omega (arith, e)) (λ f. let e = no_more k f in omega (arith, e)) (cases_Bool (test k))
+
+  grows : (k m : ℕ) → k ≤ m → count k ≤ count m
+  grows k zero h = let e : k ≡ 0 = omega arith in let same = ap count e in omega (arith, same)
+  grows k (suc m) h =
+      ⊎_elim (λ (e : k ≡ suc m). let same = ap count e in omega (arith, same))
+      (λ ne. let ih = grows k m (omega arith) in let up = step_up m in omega (arith, ih, up))
+      (cases_eq k (suc m))
+
+  -- one that passes is counted from the next number on
+  counted : (k m : ℕ) → test k ≡ true → k < m → count k < count m
+  counted k m h less =
+      let up = grows (suc k) m less in
+      let one = one_more k h in
+      omega (arith, up, one)
+
+  -- each count is reached at one that passes
+  reached_at : (k z : ℕ) → z < count k → (m : ℕ) × (m < k) × (test m ≡ true) × (count m ≡ z)
+  reached_at zero z h = absurd (omega (arith, h))
+  reached_at (suc k) z h =
+      ⊎_elim
+      (λ t. let e = one_more k t in
+      ⊎_elim (λ (q : z ≡ count k). (k, omega arith, t, sym q)) (λ ne. let w = reached_at k z (omega (arith, e, ne, h)) in (w.0, omega (arith, w.1), w.2, w.3)) (cases_eq z (count k)))
+      (λ f. let e = no_more k f in let w = reached_at k z (omega (arith, e, h)) in (w.0, omega (arith, w.1), w.2, w.3))
+      (cases_Bool (test k))
+
+-- ---- classes
+
+module _ (same : ℕ → ℕ → Bool) where
+  -- the least number of the class
+  abbrev pub least : ℕ → ℕ
+  least n = unwrap_or (find (λ m. same m n) (numbers_below n)) n
+
+  abbrev pub opens : ℕ → Bool
+  opens n = least n == n
+
+  -- how many classes have a lower least number
+  abbrev pub number : ℕ → ℕ
+  number n = count_by opens (numbers_below (least n))
+
+  module _ (laws : IsEquivalence same) where
+    its_first : (n : ℕ) → IsFirstOr (λ m. same m n) 0 n (least n)
+    its_first n = let e : 0 + n ≡ n = omega arith in is_first (λ m. same m n) 0 n n (sym e)
+
+    pub least_below : (n : ℕ) → least n ≤ n
+    least_below n = (its_first n).below
+
+    least_same : (n : ℕ) → same (least n) n ≡ true
+    least_same n = ⊎_elim (λ e. subst (λ (k : ℕ). same k n ≡ true) (sym e) (laws.itself n)) (λ ne. (its_first n).passes ne) (cases_eq (least n) n)
+
+    no_lower : (n m : ℕ) → m < least n → same m n ≡ true → ⊥
+    no_lower n m low h = false≢true (sym ((its_first n).none m (omega arith) low) ∙ h)
+
+    one_least : (n m : ℕ) → same n m ≡ true → least n ≡ least m
+    one_least n m h = ⊎_elim (λ e. e) (λ o. absurd (⊎_elim
+        (λ less. no_lower m (least n) less (laws.onward (least n) n m (least_same n) h))
+        (λ more. no_lower n (least m) more (laws.onward (least m) m n (least_same m) (laws.back n m h))) o))
+        (cases_order (least n) (least m))
+
+    least_opens : (n : ℕ) → opens (least n) ≡ true
+    least_opens n = eq-eqb (least (least n)) (least n) (one_least (least n) n (least_same n))
+
+    pub alike : (n m : ℕ) → (number n ≡ number m) ↔ (same n m ≡ true)
+    alike n m = (
+      λ e. ⊎_elim
+          (λ one. laws.onward n (least n) m (laws.back (least n) n (least_same n)) (subst (λ (k : ℕ). same k m ≡ true) (sym one) (least_same m)))
+          (λ o. absurd (⊎_elim
+          (λ less. let c = counted opens (least n) (least m) (least_opens n) less in omega (arith, c, e))
+          (λ more. let c = counted opens (least m) (least n) (least_opens m) more in omega (arith, c, e)) o))
+          (cases_order (least n) (least m)),
+      λ h. ap (λ (k : ℕ). count_by opens (numbers_below k)) (one_least n m h),
+    )
+
+    pub lower : (n z : ℕ) → z < number n → (m : ℕ) × (m < n) × (number m ≡ z)
+    lower n z h =
+        let w = reached_at opens (least n) z h in
+        let b = least_below n in
+        (w.0, omega (arith, w.1, b), ap (λ (k : ℕ). count_by opens (numbers_below k)) (eqb-true (least w.0) w.0 w.2) ∙ w.3)

@@ -1,5 +1,5 @@
 -- Whether a path leads somewhere can be tested: a path without a repeated entering interface is no longer than there are interfaces.
-use Rattle.std.proofs.Common.{◌≡◌, ℕ, zero, suc, ◌+◌, ◌≤◌, inl, inr, Bool, true, false, not, cond, ◌&&◌, ◌||◌, List, [], ◌∷◌, length, map, refl, sym, ap, subst, ◌∙◌, ⊎_elim, arith}
+use Rattle.std.proofs.Common.{◌≡◌, ℕ, zero, suc, ◌+◌, ◌≤◌, inl, inr, Bool, true, false, not, cond, ◌||◌, List, [], ◌∷◌, length, map, refl, sym, ap, subst, ◌∙◌, ⊎_elim, arith}
 use Rattle.std.specs.Prelude.{◌==◌}
 use Rattle.std.specs.List.{list_any, list_all, range_with_len}
 use Rattle.std.proofs.Math.ListN.{length-map}
@@ -9,6 +9,7 @@ use Rattle.policy_model.specs.Policy.{Policy, all_ifaces}
 use Rattle.policy_model.specs.Paths.{Crossing, Reaches, leads, all_steps, is_through_router}
 use Rattle.policy_model.proofs.AllWalks.{IsIn, in_map, in_pairs, in_numbers, in_lists_up_to, from_map, length-le_of_distinct}
 use Rattle.policy_model.proofs.Tested.{crossing_below}
+use Rattle.meaning_laws.specs.Tables.{is_path, reaches}
 
 abbrev pub enters : List Crossing → List ℕ
 enters path = map (λ (c : Crossing). c.enter) path
@@ -96,13 +97,6 @@ trimmed_leads at from to (c ∷ path) h =
     go false is here rest = and_from (at c.enter == from) (leads at (at c.leave) (trimmed path) to) here rest
 
 -- ---- the test
-
-abbrev pub is_path : (Crossing → Bool) → (ℕ → ℕ) → ℕ → ℕ → List Crossing → Bool
-is_path allowed at from to path = list_all allowed path && leads at from path to
-
--- whether a path leads there
-abbrev pub reaches : Policy → (Crossing → Bool) → (ℕ → ℕ) → ℕ → ℕ → Bool
-reaches p allowed at from to = list_any (is_path allowed at from to) (lists_up_to (length p.ifaces) (all_steps p))
 
 module _ (p : Policy) (allowed : Crossing → Bool) (through : (c : Crossing) → allowed c ≡ true → is_through_router p c ≡ true) (at : ℕ → ℕ) where
   each_through : (path : List Crossing) → list_all allowed path ≡ true → (c : Crossing) → IsIn c path → is_through_router p c ≡ true

@@ -1,19 +1,20 @@
 -- The tables of views and of areas: for each zone the tags that reach it, for each area the zones that it reaches.
 use Rattle.std.proofs.Common.{◌≡◌, ℕ, zero, suc, ◌+◌, ◌<◌, ◌≤◌, ◌⊎◌, inl, inr, Bool, true, false, not, cond, ◌&&◌, List, [], ◌∷◌, length, map, refl, sym, ap, subst, ◌∙◌, ⊎_elim, arith}
-use Rattle.std.specs.Prelude.{◌==◌, max, fold, filter, flat_map, slice_index}
+use Rattle.std.specs.Prelude.{◌==◌, max, fold, filter, slice_index}
 use Rattle.std.specs.List.{list_any, list_all, range_with_len}
 use Rattle.std.specs.List.Sorted.{IsStrictlyIncreasing}
 use Rattle.std.proofs.lemmas.List.Kept.{IsStrictlyIncreasing-filter}
 use Rattle.std.proofs.lemmas.Bool.{and_parts, and_from, or_cases, eqb-true, eq-eqb, false≢true}
 use Rattle.policy_model.specs.Lists.{has, numbers_below}
-use Rattle.policy_model.specs.Policy.{Policy, iface_of, area_of, router_at, is_managed, all_ifaces, all_routers}
+use Rattle.policy_model.specs.Policy.{Policy, iface_of, area_of, router_at, is_managed, all_ifaces}
 use Rattle.policy_model.specs.Paths.{Crossing, leads, is_through_router, crosses_managed}
 use Rattle.policy_model.specs.Zones.{Site, zone_at, zone_count}
-use Rattle.policy_model.specs.Tags.{Views, AreViews, IsActive, binds, keeps_tag, zone_view, inner_tags}
+use Rattle.policy_model.specs.Tags.{AreViews, IsActive, binds, keeps_tag, zone_view}
 use Rattle.policy_model.specs.Objects.{AreAreas, IsInArea, inside_borders, start_of, area_zones}
 use Rattle.policy_model.proofs.AllWalks.{IsIn, in_filter, in_map, in_numbers, in_flat_map}
 use Rattle.policy_model.proofs.Tested.{crossing_below}
-use Rattle.meaning_laws.proofs.Reached.{reaches, reached, leads_there}
+use Rattle.meaning_laws.specs.Tables.{reaches, number_past, is_in_force, bound_tags, tags_in_force, views_of, is_in_area, zones_in_area, areas_of}
+use Rattle.meaning_laws.proofs.Reached.{reached, leads_there}
 use Rattle.meaning_laws.proofs.Numbered.{some_of, mapped, mapped_long}
 
 -- ---- words
@@ -79,16 +80,13 @@ module _ (s : Site) where
   abbrev p : Policy
   p = s.policy
 
-  abbrev is_active : ℕ → ℕ → Bool
-  is_active z tag = list_any (λ i. binds p i tag && reaches p (keeps_tag p tag) (zone_at s) (zone_at s i) z) (all_ifaces p)
-
-  keeps_through : (tag : ℕ) (c : Crossing) → keeps_tag p tag c ≡ true → is_through_router p c ≡ true
+  pub keeps_through : (tag : ℕ) (c : Crossing) → keeps_tag p tag c ≡ true → is_through_router p c ≡ true
   keeps_through tag c h =
       let a = and_parts (crosses_managed p c && not (binds p c.enter tag)) (not (binds p c.leave tag)) h in
       let b = and_parts (crosses_managed p c) (not (binds p c.enter tag)) a.0 in
       (and_parts (is_through_router p c) (is_managed p (router_at p c.enter)) b.0).0
 
-  active_if : (z tag : ℕ) → IsActive s tag z → is_active z tag ≡ true
+  pub active_if : (z tag : ℕ) → IsActive s tag z → is_in_force s z tag ≡ true
   active_if z tag a =
       some_of (λ i. binds p i tag && reaches p (keeps_tag p tag) (zone_at s) (zone_at s i) z) a.iface (all_ifaces p) (in_numbers (length p.ifaces) a.iface a.there)
       (and_from (binds p a.iface tag) (reaches p (keeps_tag p tag) (zone_at s) (zone_at s a.iface) z) a.bound
@@ -99,7 +97,7 @@ module _ (s : Site) where
   from_numbers a (suc n) k (inl e) = omega (arith, e)
   from_numbers a (suc n) k (inr h) = let g = from_numbers (a + 1) n k h in omega (arith, g)
 
-  if_active : (z tag : ℕ) → is_active z tag ≡ true → IsActive s tag z
+  pub if_active : (z tag : ℕ) → is_in_force s z tag ≡ true → IsActive s tag z
   if_active z tag h =
       let w = some_in (λ i. binds p i tag && reaches p (keeps_tag p tag) (zone_at s) (zone_at s i) z) (all_ifaces p) h in
       let i : ℕ = w.0 in
@@ -107,42 +105,26 @@ module _ (s : Site) where
       let below = from_numbers 0 (length p.ifaces) i w.1 in
       record { iface = i; there = omega (arith, below); bound = a.0; chain = leads_there p (keeps_tag p tag) (keeps_through tag) (zone_at s) (zone_at s i) z a.1 }
 
-  -- past all tags that an interface binds
-  abbrev all_bound : List ℕ
-  all_bound = flat_map (λ i. (iface_of p i).binds) (all_ifaces p)
+  active_below : (z tag : ℕ) → IsActive s tag z → tag < number_past (bound_tags p)
+  active_below z tag a =
+      below_top (bound_tags p) 0 tag (in_flat_map (λ i. (iface_of p i).binds) a.iface tag (all_ifaces p) (in_numbers (length p.ifaces) a.iface a.there) (is_in (iface_of p a.iface).binds tag a.bound))
+
+  its_row : (z : ℕ) → z < zone_count s → zone_view (views_of s) z ≡ tags_in_force s z
+  its_row z h = mapped (tags_in_force s) 0 (zone_count s) z [] h ∙ (let e : 0 + z ≡ z = omega arith in ap (tags_in_force s) e)
 
   abbrev top : ℕ
-  top = fold max 0 (map suc all_bound)
+  top = number_past (bound_tags p)
 
-  active_below : (z tag : ℕ) → IsActive s tag z → tag < top
-  active_below z tag a =
-      below_top all_bound 0 tag (in_flat_map (λ i. (iface_of p i).binds) a.iface tag (all_ifaces p) (in_numbers (length p.ifaces) a.iface a.there) (is_in (iface_of p a.iface).binds tag a.bound))
-
-  abbrev zone_rows : List (List ℕ)
-  zone_rows = map (λ z. row (is_active z) top) (numbers_below (zone_count s))
-
-  abbrev half : Views
-  half = record { zones = zone_rows; routers = [] }
-
-  abbrev whole : Views
-  whole = record { zones = zone_rows; routers = map (inner_tags s half) (all_routers p) }
-
-  its_row : (z : ℕ) → z < zone_count s → zone_view whole z ≡ row (is_active z) top
-  its_row z h = mapped (λ z. row (is_active z) top) 0 (zone_count s) z [] h ∙ (let e : 0 + z ≡ z = omega arith in ap (λ (z : ℕ). row (is_active z) top) e)
-
-  pub views_there : (v : Views) × AreViews s v
-  views_there = (
-    whole,
-    record {
-      each = mapped_long (λ z. row (is_active z) top) 0 (zone_count s);
-      ascending = λ z h. subst IsStrictlyIncreasing (sym (its_row z h)) (IsStrictlyIncreasing-filter (is_active z) (numbers_below top) (numbers_rise top));
-      active = λ z tag h. (
-        λ seen. if_active z tag (from_row (is_active z) top tag (subst (λ (view : List ℕ). has view tag ≡ true) (its_row z h) seen)),
-        λ a. subst (λ (view : List ℕ). has view tag ≡ true) (sym (its_row z h)) (in_row (is_active z) top tag (active_below z tag a) (active_if z tag a)),
-      );
-      inner = refl;
-    },
-  )
+  pub views_found : AreViews s (views_of s)
+  views_found = record {
+    each = mapped_long (tags_in_force s) 0 (zone_count s);
+    ascending = λ z h. subst IsStrictlyIncreasing (sym (its_row z h)) (IsStrictlyIncreasing-filter (is_in_force s z) (numbers_below top) (numbers_rise top));
+    active = λ z tag h. (
+      λ seen. if_active z tag (from_row (is_in_force s z) top tag (subst (λ (view : List ℕ). has view tag ≡ true) (its_row z h) seen)),
+      λ a. subst (λ (view : List ℕ). has view tag ≡ true) (sym (its_row z h)) (in_row (is_in_force s z) top tag (active_below z tag a) (active_if z tag a)),
+    );
+    inner = refl;
+  }
 
   -- ---- areas
 
@@ -156,15 +138,12 @@ module _ (s : Site) where
       let b = and_parts (crosses_managed p c) (not (has borders c.enter)) a.0 in
       (and_parts (is_through_router p c) (is_managed p (router_at p c.enter)) b.0).0
 
-  abbrev is_of : ℕ → ℕ → Bool
-  is_of k z = reaches p (inside k) (zone_at s) (start_of s k) z
-
   -- past the area's start and all interfaces' zones
   abbrev places : ℕ → List ℕ
   places k = start_of s k ∷ map (zone_at s) (all_ifaces p)
 
   abbrev top_of : ℕ → ℕ
-  top_of k = fold max 0 (map suc (places k))
+  top_of k = number_past (places k)
 
   ends_at : (k from to : ℕ) (path : List Crossing) → list_all (inside k) path ≡ true → leads (zone_at s) from path to ≡ true → (from ≡ to) ⊎ IsIn to (map (zone_at s) (all_ifaces p))
   ends_at k from to [] all ends = inl (eqb-true from to ends)
@@ -179,23 +158,17 @@ module _ (s : Site) where
   of_below k z r =
       below_top (places k) 0 z (⊎_elim (λ e. inl (sym e)) (λ h. inr h) (ends_at k (start_of s k) z r.path r.crossings r.ends))
 
-  abbrev area_rows : List (List ℕ)
-  area_rows = map (λ k. row (is_of k) (top_of k)) (numbers_below (length p.areas))
-
-  its_zones : (k : ℕ) → k < length area_rows → area_zones area_rows k ≡ row (is_of k) (top_of k)
+  its_zones : (k : ℕ) → k < length (areas_of s) → area_zones (areas_of s) k ≡ zones_in_area s k
   its_zones k h =
-      let long = mapped_long (λ k. row (is_of k) (top_of k)) 0 (length p.areas) in
-      mapped (λ k. row (is_of k) (top_of k)) 0 (length p.areas) k [] (omega (arith, h, long)) ∙ (let e : 0 + k ≡ k = omega arith in ap (λ (k : ℕ). row (is_of k) (top_of k)) e)
+      let long = mapped_long (zones_in_area s) 0 (length p.areas) in
+      mapped (zones_in_area s) 0 (length p.areas) k [] (omega (arith, h, long)) ∙ (let e : 0 + k ≡ k = omega arith in ap (zones_in_area s) e)
 
-  pub areas_there : (areas : List (List ℕ)) × AreAreas s areas
-  areas_there = (
-    area_rows,
-    record {
-      each = mapped_long (λ k. row (is_of k) (top_of k)) 0 (length p.areas);
-      ascending = λ k h. subst IsStrictlyIncreasing (sym (its_zones k h)) (IsStrictlyIncreasing-filter (is_of k) (numbers_below (top_of k)) (numbers_rise (top_of k)));
-      zones = λ k z h. (
-        λ seen. leads_there p (inside k) (inside_through k) (zone_at s) (start_of s k) z (from_row (is_of k) (top_of k) z (subst (λ (r : List ℕ). has r z ≡ true) (its_zones k h) seen)),
-        λ r. subst (λ (q : List ℕ). has q z ≡ true) (sym (its_zones k h)) (in_row (is_of k) (top_of k) z (of_below k z r) (reached p (inside k) (inside_through k) (zone_at s) (start_of s k) z r)),
-      );
-    },
-  )
+  pub areas_found : AreAreas s (areas_of s)
+  areas_found = record {
+    each = mapped_long (zones_in_area s) 0 (length p.areas);
+    ascending = λ k h. subst IsStrictlyIncreasing (sym (its_zones k h)) (IsStrictlyIncreasing-filter (is_in_area s k) (numbers_below (top_of k)) (numbers_rise (top_of k)));
+    zones = λ k z h. (
+      λ seen. leads_there p (inside k) (inside_through k) (zone_at s) (start_of s k) z (from_row (is_in_area s k) (top_of k) z (subst (λ (r : List ℕ). has r z ≡ true) (its_zones k h) seen)),
+      λ r. subst (λ (q : List ℕ). has q z ≡ true) (sym (its_zones k h)) (in_row (is_in_area s k) (top_of k) z (of_below k z r) (reached p (inside k) (inside_through k) (zone_at s) (start_of s k) z r)),
+    );
+  }

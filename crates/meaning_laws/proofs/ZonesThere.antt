@@ -1,14 +1,14 @@
 -- The table of zones: the classes of networks that chains of unmanaged routers join.
-use Rattle.std.proofs.Common.{◌≡◌, ℕ, ◌+◌, ◌<◌, Bool, true, not, ◌&&◌, List, [], ◌∷◌, ◌++◌, length, map, refl, sym, ap, subst, ◌∙◌, arith}
+use Rattle.std.proofs.Common.{◌≡◌, ℕ, ◌+◌, ◌<◌, Bool, true, not, ◌&&◌, List, [], ◌∷◌, ◌++◌, length, refl, sym, ap, subst, ◌∙◌, arith}
 use Rattle.std.specs.Prelude.{◌==◌, nat_lt, slice_index}
 use Rattle.std.specs.List.{list_all}
 use Rattle.std.proofs.lemmas.Bool.{and_parts, and_from, eqb-true, eq-eqb}
-use Rattle.policy_model.specs.Lists.{numbers_below}
 use Rattle.policy_model.specs.Policy.{Policy, net_at, router_at, is_managed}
 use Rattle.policy_model.specs.Paths.{Crossing, leads, is_through_router, crosses_unmanaged}
 use Rattle.policy_model.specs.Zones.{AreZones, AreJoined}
-use Rattle.meaning_laws.proofs.Reached.{reaches, reached, leads_there}
-use Rattle.meaning_laws.proofs.Numbered.{IsEquivalence, numbered, mapped, mapped_long}
+use Rattle.meaning_laws.specs.Tables.{are_joined, zone_number, zones_of}
+use Rattle.meaning_laws.proofs.Reached.{reached, leads_there}
+use Rattle.meaning_laws.proofs.Numbered.{IsEquivalence, alike, lower, mapped, mapped_long}
 
 -- ---- paths of unmanaged routers, joined and turned
 
@@ -56,19 +56,16 @@ turned_leads at from to (c ∷ path) h =
     (and_from (at c.leave == at c.leave) (at c.enter == from) (eq-eqb (at c.leave) (at c.leave) refl) w.0)
 
 module _ (p : Policy) where
-  abbrev joined : ℕ → ℕ → Bool
-  joined n m = reaches p (crosses_unmanaged p) (net_at p) n m
-
   through : (c : Crossing) → crosses_unmanaged p c ≡ true → is_through_router p c ≡ true
   through c h = (and_parts (is_through_router p c) (not (is_managed p (router_at p c.enter))) h).0
 
-  joined_if : (n m : ℕ) → AreJoined p n m → joined n m ≡ true
+  joined_if : (n m : ℕ) → AreJoined p n m → are_joined p n m ≡ true
   joined_if n m r = reached p (crosses_unmanaged p) through (net_at p) n m r
 
-  if_joined : (n m : ℕ) → joined n m ≡ true → AreJoined p n m
+  if_joined : (n m : ℕ) → are_joined p n m ≡ true → AreJoined p n m
   if_joined n m h = leads_there p (crosses_unmanaged p) through (net_at p) n m h
 
-  laws : IsEquivalence joined
+  laws : IsEquivalence (are_joined p)
   laws = record {
     itself = λ n. joined_if n n (record { path = []; crossings = refl; ends = eq-eqb n n refl });
     back = λ n m h. let r = if_joined n m h in
@@ -77,19 +74,17 @@ module _ (p : Policy) where
         joined_if n k (record { path = r.path ++ q.path; crossings = all_joined (crosses_unmanaged p) r.path q.path r.crossings q.crossings; ends = leads_joined (net_at p) n m k r.path q.path r.ends q.ends });
   }
 
-  pub zones_there : (zones : List ℕ) × AreZones p zones
-  zones_there =
-      let count = length p.nets in
-      let t = numbered joined laws count in
-      let zones = map t.number (numbers_below count) in
-      let at : (n : ℕ) → n < count → slice_index zones n ≡ t.number n = λ n h. mapped t.number 0 count n 0 h ∙ (let e : 0 + n ≡ n = omega arith in ap t.number e) in (
-        zones,
-        record {
-          each = mapped_long t.number 0 count;
-          joined = λ n m hn hm.
-              (λ e. if_joined n m ((t.alike n m hn hm).0 (sym (at n hn) ∙ (e ∙ at m hm))), λ r. at n hn ∙ ((t.alike n m hn hm).1 (joined_if n m r) ∙ sym (at m hm)));
-          numbered = λ n z hn hz.
-              let w = t.lower n z hn (subst (λ (x : ℕ). z < x) (at n hn) hz) in
-              let lw : w.0 < count = omega (arith, w.1) in (w.0, w.1, at w.0 lw ∙ w.2);
-        },
-      )
+  its_zone : (n : ℕ) → n < length p.nets → slice_index (zones_of p) n ≡ zone_number p n
+  its_zone n h = mapped (zone_number p) 0 (length p.nets) n 0 h ∙ (let e : 0 + n ≡ n = omega arith in ap (zone_number p) e)
+
+  pub zones_found : AreZones p (zones_of p)
+  zones_found = record {
+    each = mapped_long (zone_number p) 0 (length p.nets);
+    joined = λ n m hn hm. (
+      λ e. if_joined n m ((alike (are_joined p) laws n m).0 (sym (its_zone n hn) ∙ (e ∙ its_zone m hm))),
+      λ r. its_zone n hn ∙ ((alike (are_joined p) laws n m).1 (joined_if n m r) ∙ sym (its_zone m hm)),
+    );
+    numbered = λ n z hn hz.
+        let w = lower (are_joined p) laws n z (subst (λ (x : ℕ). z < x) (its_zone n hn) hz) in
+        let lw : w.0 < length p.nets = omega (arith, w.1) in (w.0, w.1, its_zone w.0 lw ∙ w.2);
+  }

@@ -1,5 +1,6 @@
-use Rattle.meaning_laws.proofs.RowsThere.{views_there}
+use Rattle.meaning_laws.specs.Tables.{views_of}
+use Rattle.meaning_laws.proofs.RowsThere.{views_found}
 use Rattle.meaning_laws.proofs.views_are_there.Goals as goal
 
 pub returns : goal.returns
-returns c = views_there
+returns c = λ s. (views_of s, views_found s)

@@ -1,5 +1,6 @@
-use Rattle.meaning_laws.proofs.ZonesThere.{zones_there}
+use Rattle.meaning_laws.specs.Tables.{zones_of}
+use Rattle.meaning_laws.proofs.ZonesThere.{zones_found}
 use Rattle.meaning_laws.proofs.zones_are_there.Goals as goal
 
 pub returns : goal.returns
-returns c = zones_there
+returns c = λ p. (zones_of p, zones_found p)
