@@ -55,11 +55,14 @@ asa_list_text groups port lines = flat_map (asa_line_text groups port) lines
 abbrev pub asa_binding_text : PortName → List ℕ
 asa_binding_text port = codes "access-group " ++ list_name port.hardware ++ codes " in interface " ++ port.hardware ++ codes "\n"
 
--- the router's name, its routes, the groups, the lines of all lists, and the bindings of the lists
+-- the router's name, its routes, these groups, the lines of all lists, and the bindings of the lists
+abbrev pub asa_text_with : List (List Cidr) → List ℕ → List PortName → Config → List ℕ
+asa_text_with groups name ports config =
+    codes "! " ++ name ++ codes " ASA\n" ++ flat_map (asa_route_text ports) config.routes ++ groups_text 0 groups ++ each_list (asa_list_text groups) ports config.lists
+    ++ flat_map asa_binding_text ports
+
 abbrev pub asa_text : List ℕ → List PortName → Config → List ℕ
-asa_text name ports config =
-    codes "! " ++ name ++ codes " ASA\n" ++ flat_map (asa_route_text ports) config.routes ++ groups_text 0 (groups_of config.lists)
-    ++ each_list (asa_list_text (groups_of config.lists)) ports config.lists ++ flat_map asa_binding_text ports
+asa_text name ports config = asa_text_with (groups_of config.lists) name ports config
 
 abbrev pub device_text : Dialect → List ℕ → List PortName → Config → List ℕ
 device_text Ios name ports config = ios_text name ports config

@@ -27,11 +27,14 @@ mask_in Asa p = netmask_of p
 abbrev pub network_text : Cidr → List ℕ
 network_text p = dotted p.net ++ codes " " ++ dotted (netmask_of p)
 
+abbrev pub host_text : ℕ → List ℕ
+host_text a = codes "host " ++ dotted a
+
 -- the addresses of a prefix in an access list
 unfoldable pub prefix_text : Dialect → Cidr → List ℕ
 prefix_text dialect p =
     if p.len == 0 then codes "any"
-    else if p.len == 32 then codes "host " ++ dotted p.net
+    else if p.len == 32 then host_text p.net
     else dotted p.net ++ codes " " ++ dotted (mask_in dialect p)
 
 abbrev pub action_text : Bool → List ℕ

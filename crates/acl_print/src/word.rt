@@ -1,7 +1,7 @@
 ghost use Rattle.std.specs.Prelude.{◌≡◌, ◌++◌, ◌-◌, ◌^◌, ◌≤◌, IfOk, codes};
 ghost use Rattle.std.specs.Fmt.{decimal};
 ghost use Rattle.spoc_base.specs.Shown.{cidr_of, box_of, ports_of};
-ghost use Rattle.acl_print.specs.Words.{dotted, mask_in, wildcard_of, netmask_of, network_text, prefix_text, action_text, protocol_text, ports_text, number_text, source_ports, other_ports, mark_text, list_name};
+ghost use Rattle.acl_print.specs.Words.{dotted, host_text, mask_in, wildcard_of, netmask_of, network_text, prefix_text, action_text, protocol_text, ports_text, number_text, source_ports, other_ports, mark_text, list_name};
 
 use itoa::Buffer;
 use spoc_base::{Addr, Dialect, NoMemory, PortRange, Prefix, TBox};
@@ -75,6 +75,13 @@ pub(crate) fn put_network(out: &mut Vec<u8>, net: Addr, len: u8) -> Result<(), N
     put_address(out, netmask(len))
 }
 
+pub(crate) fn put_host(out: &mut Vec<u8>, a: Addr) -> Result<(), NoMemory>
+    ensures { IfOk result (λ _. out.new.items ≡ out.old.items ++ host_text a.0) }
+{
+    put(out, b"host ")?;
+    put_address(out, a)
+}
+
 // The addresses of a prefix.
 #[tactic(auto, unfolding(crate::specs::Words::prefix_text))]
 pub(crate) fn put_prefix(out: &mut Vec<u8>, dialect: Dialect, p: Prefix) -> Result<(), NoMemory>
@@ -85,8 +92,7 @@ pub(crate) fn put_prefix(out: &mut Vec<u8>, dialect: Dialect, p: Prefix) -> Resu
         return put(out, b"any");
     }
     if len == 32 {
-        put(out, b"host ")?;
-        return put_address(out, p.net());
+        return put_host(out, p.net());
     }
     put_address(out, p.net())?;
     put(out, b" ")?;
