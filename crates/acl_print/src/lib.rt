@@ -9,3 +9,6 @@ mod ios;
 mod word;
 
 pub use device::print;
+
+#[cfg(test)]
+mod tests;
