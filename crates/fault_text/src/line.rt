@@ -1,4 +1,4 @@
-ghost use Rattle.std.specs.Prelude.{◌≡◌, ◌++◌, ◌^◌, ◌<◌, IfOk, map, length};
+ghost use Rattle.std.specs.Prelude.{◌≡◌, ◌++◌, ◌^◌, ◌<◌, IfOk, map, codes, length};
 ghost use Rattle.std.specs.Fmt.{decimal};
 ghost use Rattle.fault_text.specs.Texts.{pair_of, source_at, part_of, text_at, value_text, kind_word, named_word, bare_name, name_under, name_text, names_text};
 ghost use Rattle.fault_text.specs.Texts.{hop_text, limit_word, later_word, place_text, fault_word, detail_text, things_text, fault_line};

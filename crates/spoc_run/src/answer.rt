@@ -10,8 +10,8 @@ ghost use Rattle.spoc_run.specs.Decided.{IsCompiled, AnswersSources, AnswersFail
 
 use crate::load::LoadFail;
 use crate::texts::too_large;
-use fault_text::fault_line;
 use compile_core::{Compiled, DeviceFile, compile, device_files_have_distinct_names, summary_text};
+use fault_text::fault_line;
 use spoc_base::{Fault, Refusal, Row, Source, Text};
 use std::alloc::Global;
 
