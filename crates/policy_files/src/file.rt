@@ -121,7 +121,10 @@ fn trees<'a>(arena: &'a Bump, file: u32, tokens: &[Token<'a>]) -> Result<File<'a
     ensures err { IfErr result (λ e. FailsAt e (run_of most_levels (toks_of tokens.now))) }
 {
     trees_of_a_text();
-    parse(arena, file, tokens)
+    match parse(arena, file, tokens) {
+        Ok(tree) => Ok(tree),
+        Err(fail) => Err(fail),
+    }
 }
 
 // The declarations that tokens spell.

@@ -1,6 +1,6 @@
-use Rattle.std.proofs.Common.{ap, ◌∙◌}
+use Rattle.std.proofs.Common.{ap, ◌∙◌, ◌++◌}
 use Rattle.policy_files.specs.Fault.{fault_of_texts}
-use Rattle.policy_files.specs.OfTexts.{declared}
+use Rattle.policy_files.specs.OfTexts.{declared, decls_of_text}
 use Rattle.policy_files.specs.Rank.{earlier, text_fault}
 use Rattle.policy_files.specs.Seen.{texts_of, decls_of}
 use Rattle.policy_files.proofs.Loop.{step, at_end, decls_step, decls_at_end}
@@ -16,10 +16,10 @@ loop-k-preserved c =
           (declared (texts_of sources)) sources c.loop-k.k c.index-sources-k.result c.loop-k-test.true new c.in_ok-read_next.ensures.said c.loop-k.invariant.1,
     )
 
-pub returns-fault : goal.returns-fault
-returns-fault c = at_end c.loop-k.reading.fault c.args.sources.now c.loop-k.k (fault_of_texts (texts_of c.args.sources.now)) c.loop-k-test.false c.loop-k.invariant.0
+pub returns-clause-fault : goal.returns-clause-fault
+returns-clause-fault c = at_end c.loop-k.reading.fault c.args.sources.now c.loop-k.k (fault_of_texts (texts_of c.args.sources.now)) c.loop-k-test.false c.loop-k.invariant.0
 
-pub returns-said : goal.returns-said
-returns-said c =
+pub returns-clause-said : goal.returns-clause-said
+returns-clause-said c =
     decls_at_end c.loop-k.reading.fault (decls_of c.loop-k.reading.files.items) (declared (texts_of c.args.sources.now)) c.args.sources.now c.loop-k.k
     c.loop-k-test.false c.loop-k.invariant.1
