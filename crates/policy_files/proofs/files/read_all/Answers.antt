@@ -13,7 +13,7 @@ loop-k-preserved c =
       step c.loop-k.reading.fault c.read_next.new.reading.fault sources c.loop-k.k c.index-sources-k.result (fault_of_texts (texts_of sources))
           c.loop-k-test.true new c.loop-k.invariant.0,
       decls_step c.loop-k.reading.fault c.read_next.new.reading.fault (decls_of c.loop-k.reading.files.items) (decls_of c.read_next.new.reading.files.items)
-          (declared (texts_of sources)) sources c.loop-k.k c.index-sources-k.result c.loop-k-test.true new c.in_ok-read_next.ensures.said c.loop-k.invariant.1,
+          (declared (texts_of sources)) sources c.loop-k.k c.index-sources-k.result c.loop-k-test.true new (λ none. c.in_ok-read_next.ensures.said none ∙ ap (λ t. decls_of c.loop-k.reading.files.items ++ decls_of_text c.loop-k.k t) c.bytes.ensures) c.loop-k.invariant.1,
     )
 
 pub returns-clause-fault : goal.returns-clause-fault
