@@ -1,7 +1,6 @@
 pub mod Paths
 pub mod Policy
 pub mod Sources
-pub mod Texts
 pub mod Outcome
 pub mod Puts
 pub mod Answer

@@ -6,7 +6,7 @@ use Rattle.spoc_base.specs.declared.fault.Fault.{Fault}
 use Rattle.spoc_io.specs.Files.{Files}
 use Rattle.compile_core.specs.Outcome.{Written, outcome_of, summary_text}
 use Rattle.spoc_run.specs.Policy.{policy_of, first_large, most_of_all}
-use Rattle.spoc_run.specs.Texts.{fault_line}
+use Rattle.fault_text.specs.Texts.{fault_line}
 
 -- whether the words are `compile POLICY CODE`
 abbrev pub is_compile : List (List ℕ) → Bool

@@ -9,8 +9,9 @@ ghost use Rattle.spoc_run.specs.Answer.{bytes_of_message};
 ghost use Rattle.spoc_run.specs.Decided.{IsCompiled, AnswersSources, AnswersFail};
 
 use crate::load::LoadFail;
-use crate::texts::{fault_line, too_large};
+use crate::texts::too_large;
 use compile_core::{Compiled, DeviceFile, compile, device_files_have_distinct_names, summary_text};
+use fault_text::fault_line;
 use spoc_base::{Fault, Refusal, Row, Source, Text};
 use std::alloc::Global;
 
@@ -93,7 +94,7 @@ fn answer_for_fault(alloc: Global, sources: &[Source], fault: Fault) -> Answer
     requires { compiled_of (map pair_of sources.now) ≡ Err fault }
     ensures { AnswersSources (map pair_of sources.now) result.status (bytes_of_message result.text) (map file_of result.files) }
 {
-    match fault_line(alloc, sources, fault) {
+    match fault_line(alloc, fault, sources) {
         Ok(line) => plain(alloc, 1, Message::Made(line)),
         Err(_) => plain(alloc, 5, Message::NoRoom),
     }

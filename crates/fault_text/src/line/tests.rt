@@ -1,5 +1,5 @@
 // The line of each fault, over one source whose text is names.
-use crate::texts::fault_line;
+use crate::line::fault_line;
 use spoc_base::{Fault, HopAt, Kind, LaterWord, LimitWord, Named, NoMemory, Source, Span, Text};
 use std::alloc::Global;
 use std::process::Abort;
@@ -46,7 +46,7 @@ fn compare(rt: &impl Abort, alloc: Global, lines: &[(Fault, &str)]) -> Result<()
     let text = Text::of(alloc, TEXT)?;
     let sources = [Source { path, text }];
     for (fault, line) in lines {
-        let printed = fault_line(alloc, &sources, *fault)?;
+        let printed = fault_line(alloc, *fault, &sources)?;
         assert_eq!(rt; printed.bytes(), line.as_bytes(), "{line}");
     }
     Ok(())

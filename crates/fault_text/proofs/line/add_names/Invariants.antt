@@ -1,7 +1,6 @@
 use Rattle.std.proofs.Common.{◌≡◌, ◌++◌, drop, map}
-use Rattle.compile_core.specs.Answer.{pair_of}
-use Rattle.spoc_run.specs.Texts.{names_text}
-use Rattle.spoc_run.proofs.texts.add_names.Given as goal
+use Rattle.fault_text.specs.Texts.{pair_of, names_text}
+use Rattle.fault_text.proofs.line.add_names.Given as goal
 
 abbrev pub invariant-loop-name : goal.invariant-loop-name
 invariant-loop-name l =

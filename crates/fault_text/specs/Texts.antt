@@ -1,7 +1,7 @@
--- The lines of faults.
+-- The lines of faults, by the sources.
 use Rattle.std.specs.Prelude.{ℕ, nat_le, ◌&&◌, List, [], ◌∷◌, ◌++◌, if◌then◌else◌, length, flat_map, codes, slice_range, slice_index_or}
 use Rattle.std.specs.Fmt.{decimal}
-use Rattle.spoc_io.specs.Files.{Files}
+use Rattle.spoc_base.specs.declared.place.Source.{Source}
 use Rattle.spoc_base.specs.declared.place.Span.{Span}
 use Rattle.spoc_base.specs.declared.place.Kind.{Kind}
 use Rattle.spoc_base.specs.declared.place.Kind.TheVariants as kind
@@ -15,6 +15,13 @@ use Rattle.spoc_base.specs.declared.fault.LaterWord.{LaterWord}
 use Rattle.spoc_base.specs.declared.fault.LaterWord.TheVariants as later
 use Rattle.spoc_base.specs.declared.fault.HopAt.{HopAt}
 use Rattle.spoc_base.specs.declared.fault.HopAt.TheVariants as hop
+
+-- paths and texts
+abbrev pub Files : Type 0
+Files = List (List ℕ × List ℕ)
+
+abbrev pub pair_of : Source → List ℕ × List ℕ
+pair_of s = (s.path, s.text)
 
 -- the k-th source, or one without path and bytes where there is none
 abbrev pub source_at : Files → ℕ → List ℕ × List ℕ

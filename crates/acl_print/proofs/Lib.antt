@@ -1,0 +1,4 @@
+pub mod Parts
+pub mod EntryText
+pub mod GroupNumbers
+pub mod FirstUses

@@ -1,0 +1,9 @@
+use Rattle.std.proofs.Common.{◌≡◌, ◌++◌, drop, map}
+use Rattle.std.specs.Prelude.{flat_map}
+use Rattle.dev_config.specs.Seen.{route_of}
+use Rattle.acl_print.specs.DeviceText.{ios_route_text}
+use Rattle.acl_print.proofs.ios.put_routes.Given as goal
+
+abbrev pub invariant-loop-route : goal.invariant-loop-route
+invariant-loop-route l =
+    l.out.items ++ flat_map ios_route_text (map route_of (drop l.route-index l.routes)) ≡ l.fn.out.items ++ flat_map ios_route_text (map route_of l.routes)

@@ -1,0 +1,5 @@
+pub mod Seen
+pub mod Words
+pub mod Groups
+pub mod Entries
+pub mod DeviceText
