@@ -1,0 +1,9 @@
+mod Bridges
+mod Fronts
+mod Prefixes
+mod Pushing
+mod Rows
+mod Starts
+mod Tree
+mod FirstWalks
+mod Open

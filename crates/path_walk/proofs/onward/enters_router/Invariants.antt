@@ -1,0 +1,13 @@
+use Rattle.std.proofs.Common.{◌≡◌, ◌&&◌, ◌||◌, not, false, true, take, drop, [], ◌∷◌, ◌++◌}
+use Rattle.std.specs.Prelude.{◌==◌}
+use Rattle.std.specs.List.{list_any, list_all}
+use Rattle.topology.specs.View.{policy_of}
+use Rattle.path_walk.specs.Seen.{site_of, path_seen, step_seen, two_on}
+use Rattle.policy_model.specs.Zones.{zone_at}
+use Rattle.policy_model.specs.Policy.{router_at}
+use Rattle.policy_model.specs.Lists.{has}
+use Rattle.policy_model.specs.Paths.{interfaces_on}
+use Rattle.path_walk.proofs.onward.enters_router.Given as goal
+
+abbrev pub invariant-loop-c : goal.invariant-loop-c
+invariant-loop-c l = list_any (λ c. router_at (policy_of l.fn.topo) c.enter.0 == l.fn.router.0) (take l.c-index l.path) ≡ false

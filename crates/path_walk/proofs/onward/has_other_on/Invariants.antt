@@ -1,0 +1,13 @@
+use Rattle.std.proofs.Common.{◌≡◌, ◌&&◌, ◌||◌, not, false, true, take, drop, [], ◌∷◌, ◌++◌}
+use Rattle.std.specs.Prelude.{◌==◌}
+use Rattle.std.specs.List.{list_any, list_all}
+use Rattle.topology.specs.View.{policy_of}
+use Rattle.path_walk.specs.Seen.{site_of, path_seen, step_seen, two_on}
+use Rattle.policy_model.specs.Zones.{zone_at}
+use Rattle.policy_model.specs.Policy.{router_at}
+use Rattle.policy_model.specs.Lists.{has}
+use Rattle.policy_model.specs.Paths.{interfaces_on}
+use Rattle.path_walk.proofs.onward.has_other_on.Given as goal
+
+abbrev pub invariant-loop-j : goal.invariant-loop-j
+invariant-loop-j l = list_any (λ j. not (l.fn.i.0 == j.0) && has (interfaces_on (path_seen l.fn.path ++ step_seen l.fn.last ∷ [])) j.0) (take l.j-index l.members) ≡ false

@@ -1,0 +1,5 @@
+pub mod Begun
+pub mod Next
+pub mod Search
+pub mod Seen
+pub mod Stack

@@ -1,0 +1,10 @@
+//! Walks from zone to zone, by plain search over managed routers: the first allowed walks in order.
+#![tactic(auto)]
+
+pub mod listing;
+mod lookup;
+mod onward;
+mod search;
+mod step;
+
+pub use listing::{WalkList, walks};
