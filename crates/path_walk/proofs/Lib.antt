@@ -1,5 +1,6 @@
 mod Bridges
 mod Fronts
+mod Going
 mod Prefixes
 mod Pushing
 mod Rows

@@ -89,7 +89,7 @@ pub come_of : (s : Site) (from to : ℕ) (path : List Crossing) (branches : List
     to_come s from to path (branches_of s from path ++ branches)
     ≡ flat_map (λ c. walks_on s from to (most_of s - (length path + 1)) (path ++ c ∷ [])) (filter (goes_on s from path) (all_crossings s)) ++ to_come s from to path branches
 come_of s from to path branches =
-    let mk = λ (c : Crossing). record { depth = length path; crossing = c } in
+    let mk : Crossing → Branch = λ c. record { depth = length path; crossing = c } in
     let cs = filter (goes_on s from path) (all_crossings s) in
     let f = λ (b : Branch). walks_on s from to (most_of s - (b.depth + 1)) (branched path b) in
     flat_map-append f (branches_of s from path) branches

@@ -11,7 +11,7 @@ use Rattle.policy_model.specs.Zones.{Site, zone_at}
 use Rattle.policy_model.specs.Walks.{is_crossing, has_two_of, is_allowed_walk, is_unrestricted, all_crossings, all_paths, allowed_walks}
 use Rattle.path_walk.specs.Search.{Branch, AreOpen, branched, branches_of, to_come, end_of, may_begin, goes_on, walks_on, most_of}
 use Rattle.path_walk.proofs.Fronts.{MayBegin, begins_by, refused, any_none}
-use Rattle.path_walk.proofs.Tree.{onward_by_doors}
+use Rattle.path_walk.proofs.Tree.{onward_by_doors, none_home}
 use Rattle.path_walk.proofs.Open.{come_of, open_all_of}
 
 -- no two interfaces are on the empty path
@@ -52,3 +52,7 @@ come_at_first s from to other =
 
 pub open_at_first : (s : Site) (from : ℕ) (path : List Crossing) → may_begin s from path ≡ true → AreOpen s from path (length path) (branches_of s from path ++ [])
 open_at_first s from path h = open_all_of s from path [] h tt
+
+-- from a zone to itself there is no walk
+pub no_walks_home : (s : Site) (from to : ℕ) → from ≡ to → allowed_walks s from to ≡ []
+no_walks_home s from to e = sym (all_from_empty s from to) ∙ none_home s from to (most_of s) [] e
