@@ -1,6 +1,7 @@
 mod Bridges
 mod Fronts
 mod Going
+mod Marking
 mod Prefixes
 mod Pushing
 mod Rows

@@ -5,13 +5,18 @@ use Rattle.spoc_base.specs.declared.ids.IfId.{IfId}
 use Rattle.policy_model.specs.Lists.{has}
 use Rattle.policy_model.specs.Policy.{Policy}
 use Rattle.policy_model.specs.Paths as plain
+use Rattle.policy_model.specs.Marks as marks
 use Rattle.policy_model.specs.Zones.{Site}
 use Rattle.zone_graph.specs.Grouped.{Graph}
 use Rattle.zone_graph.specs.declared.marks.Crossing.{Crossing}
+use Rattle.zone_graph.specs.declared.marks.Link.{Link}
 use Rattle.path_walk.specs.declared.step.Step.{Step}
 
 abbrev pub crossing_seen : Crossing → plain.Crossing
 crossing_seen c = record { enter = c.enter.0; leave = c.leave.0 }
+
+abbrev pub link_seen : Link → marks.Link
+link_seen l = record { leave = l.leave.0; enter = l.enter.0 }
 
 abbrev pub step_seen : Step → plain.Crossing
 step_seen c = record { enter = c.enter.0; leave = c.leave.0 }

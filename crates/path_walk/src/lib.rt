@@ -3,8 +3,10 @@
 
 pub mod listing;
 mod lookup;
+pub mod marks;
 mod onward;
 mod search;
 mod step;
 
 pub use listing::{WalkList, walks};
+pub use marks::plain_marks;

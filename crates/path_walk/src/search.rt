@@ -70,6 +70,13 @@ impl Search {
         Ok(Row::of(walk))
     }
 
+    /// The path at which the search stands.
+    pub(crate) fn path(&self) -> &[Step]
+        ensures { result.now ≡ self.now.path.items }
+    {
+        self.path.as_slice()
+    }
+
     /// Goes back to where a branch begins, and goes on by it.
     fn follow(&mut self, branch: Branch) -> Result<(), NoMemory>
         ensures path { OnOk result (path_seen self.new.path.items ≡ branched (path_seen self.old.path.items) (branch_seen branch)) }
