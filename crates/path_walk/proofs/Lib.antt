@@ -1,6 +1,8 @@
+mod Ascending
 mod Bridges
 mod Fronts
 mod Going
+mod Marked
 mod Marking
 mod Prefixes
 mod Pushing

@@ -17,7 +17,7 @@ use Rattle.policy_model.specs.Delivery.{goes_into}
 use Rattle.topology.specs.Kept.{ifaces_of}
 use Rattle.path_walk.proofs.Fronts.{tests_alike, refused, walk_begins, going_on, goes_on_is}
 
-crossing_is : (c d : Crossing) → same_crossing c d ≡ true → c ≡ d
+pub crossing_is : (c d : Crossing) → same_crossing c d ≡ true → c ≡ d
 crossing_is c d h =
     let a = and_parts (c.enter == d.enter) (c.leave == d.leave) h in
     let x : record_of c.enter c.leave ≡ record_of d.enter c.leave = ap (λ (e : ℕ). record_of e c.leave) (eqb-true c.enter d.enter a.0) in
