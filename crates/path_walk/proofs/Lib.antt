@@ -1,4 +1,5 @@
 mod Ascending
+mod Standing
 mod Bridges
 mod Fronts
 mod Going

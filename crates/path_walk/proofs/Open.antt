@@ -74,7 +74,7 @@ wider s from path limit more (b ∷ branches) low h = (omega (arith, h.0, low), 
 whole_branched : (path : List Crossing) (c : Crossing) → branched path (record { depth = length path; crossing = c }) ≡ path ++ c ∷ []
 whole_branched path c = ap (λ (l : List Crossing). l ++ c ∷ []) (take_all (length path) path (omega arith))
 
-open_more : (s : Site) (from : ℕ) (path : List Crossing) (branches : List Branch) (xs : List Crossing) → may_begin s from path ≡ true → AreOpen s from path (length path) branches →
+pub open_more : (s : Site) (from : ℕ) (path : List Crossing) (branches : List Branch) (xs : List Crossing) → may_begin s from path ≡ true → AreOpen s from path (length path) branches →
     AreOpen s from path (length path) (map (λ c. record { depth = length path; crossing = c }) (filter (goes_on s from path) xs) ++ branches)
 open_more s from path branches [] h open_now = open_now
 open_more s from path branches (x ∷ xs) h open_now = step (open_more s from path branches xs h open_now) (goes_on s from path x) refl
@@ -84,15 +84,14 @@ open_more s from path branches (x ∷ xs) h open_now = step (open_more s from pa
     step later true e = (omega arith, ap (may_begin s from) (whole_branched path x) ∙ (sym (goes_on_is s from path x h) ∙ e), later)
     step later false e = later
 
--- the branches of a path have the walks that go on from it
-pub come_of : (s : Site) (from to : ℕ) (path : List Crossing) (branches : List Branch) →
-    to_come s from to path (branches_of s from path ++ branches)
-    ≡ flat_map (λ c. walks_on s from to (most_of s - (length path + 1)) (path ++ c ∷ [])) (filter (goes_on s from path) (all_crossings s)) ++ to_come s from to path branches
-come_of s from to path branches =
+-- the branches by some crossings have the walks that go on by these
+pub come_by : (s : Site) (from to : ℕ) (path : List Crossing) (branches : List Branch) (cs : List Crossing) →
+    to_come s from to path (map (λ c. record { depth = length path; crossing = c }) cs ++ branches)
+    ≡ flat_map (λ c. walks_on s from to (most_of s - (length path + 1)) (path ++ c ∷ [])) cs ++ to_come s from to path branches
+come_by s from to path branches cs =
     let mk : Crossing → Branch = λ c. record { depth = length path; crossing = c } in
-    let cs = filter (goes_on s from path) (all_crossings s) in
     let f = λ (b : Branch). walks_on s from to (most_of s - (b.depth + 1)) (branched path b) in
-    flat_map-append f (branches_of s from path) branches
+    flat_map-append f (map mk cs) branches
     ∙ ap (λ l. l ++ to_come s from to path branches)
     (flat_map-map f mk cs ∙ same cs)
   where
@@ -102,6 +101,12 @@ come_of s from to path branches =
     same (c ∷ cs) =
         ap (λ (q : List Crossing). walks_on s from to (most_of s - (length path + 1)) q ++ flat_map (λ d. walks_on s from to (most_of s - (length path + 1)) (branched path (record { depth = length path; crossing = d }))) cs) (whole_branched path c)
         ∙ ap (λ l. walks_on s from to (most_of s - (length path + 1)) (path ++ c ∷ []) ++ l) (same cs)
+
+-- the branches of a path have the walks that go on from it
+pub come_of : (s : Site) (from to : ℕ) (path : List Crossing) (branches : List Branch) →
+    to_come s from to path (branches_of s from path ++ branches)
+    ≡ flat_map (λ c. walks_on s from to (most_of s - (length path + 1)) (path ++ c ∷ [])) (filter (goes_on s from path) (all_crossings s)) ++ to_come s from to path branches
+come_of s from to path branches = come_by s from to path branches (filter (goes_on s from path) (all_crossings s))
 
 pub open_all_of : (s : Site) (from : ℕ) (path : List Crossing) (branches : List Branch) → may_begin s from path ≡ true → AreOpen s from path (length path) branches →
     AreOpen s from path (length path) (branches_of s from path ++ branches)

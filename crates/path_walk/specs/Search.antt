@@ -56,6 +56,10 @@ branched path b = take b.depth path ++ b.crossing ∷ []
 abbrev pub branches_of : Site → ℕ → List Crossing → List Branch
 branches_of s from path = map (λ c. record { depth = length path; crossing = c }) (filter (goes_on s from path) (all_crossings s))
 
+-- the branches by which a whole path goes on at an interface
+abbrev pub branches_at : Site → ℕ → List Crossing → ℕ → List Branch
+branches_at s from path e = map (λ c. record { depth = length path; crossing = c }) (by_door s from path e)
+
 -- the walks that are still to be found: those of each branch, in turn
 abbrev pub to_come : Site → ℕ → ℕ → List Crossing → List Branch → List (List Crossing)
 to_come s from to path branches = flat_map (λ b. walks_on s from to (most_of s - (b.depth + 1)) (branched path b)) branches

@@ -1,6 +1,7 @@
 //! Walks from zone to zone, by plain search over managed routers: the first allowed walks in order.
 #![tactic(auto)]
 
+pub mod begun;
 pub mod listing;
 mod lookup;
 pub mod marks;
@@ -8,5 +9,6 @@ mod onward;
 mod search;
 mod step;
 
+pub use begun::{begins, extends};
 pub use listing::{WalkList, walks};
 pub use marks::plain_marks;

@@ -2,16 +2,16 @@ ghost use Rattle.std.specs.Prelude.{◌≡◌, ◌≢◌, ◌++◌, ◌∷◌, [
 ghost use Rattle.policy_model.specs.Zones.{zone_at};
 ghost use Rattle.topology.specs.View.{policy_of};
 ghost use Rattle.zone_graph.specs.Grouped.{IsGraphOf};
-ghost use Rattle.path_walk.specs.Seen.{site_of, path_seen, crossing_seen};
-ghost use Rattle.path_walk.specs.Search.{branched, branches_of, AreOpen};
+ghost use Rattle.path_walk.specs.Seen.{site_of, path_seen, step_seen, crossing_seen};
+ghost use Rattle.path_walk.specs.Search.{goes_on, branched, branches_of, branches_at, AreOpen};
 ghost use Rattle.path_walk.specs.Stack.{branch_seen, open_seen};
 ghost use Rattle.path_walk.specs.Next.{IsNext};
 
 use crate::lookup::zone_at;
-use crate::onward::onward;
+use crate::onward::{add_at, goes_on, onward};
 use crate::step::Step;
 use smallvec::SmallVec;
-use spoc_base::{NoMemory, Row, ZoneId};
+use spoc_base::{IfId, NoMemory, Row, ZoneId};
 use std::alloc::Global;
 use topology::Topo;
 use zone_graph::{Crossing, ZoneGraph};
@@ -33,7 +33,7 @@ pub(crate) struct Search {
 
 impl Search {
     /// A search that has found nothing.
-    fn new(alloc: Global) -> Search
+    pub(crate) fn new(alloc: Global) -> Search
         ensures path { result.path.items ≡ [] }
         ensures branches { result.open.items ≡ [] }
     {
@@ -99,8 +99,46 @@ impl Search {
         Ok(())
     }
 
+    /// Goes on by a crossing where the path ends, if a walk may do so, and says whether.
+    pub(crate) fn extend(
+        &mut self,
+        topo: Topo<'_>,
+        graph: &ZoneGraph,
+        from: ZoneId,
+        c: Step,
+    ) -> Result<bool, NoMemory>
+        requires { IsGraphOf (policy_of topo) graph.now }
+        ensures may { IfOk result (λ may. may ≡ goes_on (site_of (policy_of topo.entry) graph.now) from.0 (path_seen self.old.path.items) (step_seen c)) }
+        ensures path { IfOk result (λ may. path_seen self.new.path.items ≡ (if may then path_seen self.old.path.items ++ step_seen c ∷ [] else path_seen self.old.path.items)) }
+        ensures branches { self.new.open.items ≡ self.old.open.items }
+    {
+        if !goes_on(topo, graph, from, self.path.as_slice(), c) {
+            return Ok(false);
+        }
+        self.path.push(c)?;
+        Ok(true)
+    }
+
+    /// Opens the branches by which the path may go on at an interface.
+    pub(crate) fn expand_at(
+        &mut self,
+        alloc: Global,
+        topo: Topo<'_>,
+        graph: &ZoneGraph,
+        from: ZoneId,
+        enter: IfId,
+    ) -> Result<(), NoMemory>
+        requires { IsGraphOf (policy_of topo) graph.now }
+        ensures path { self.new.path.items ≡ self.old.path.items }
+        ensures branches { OnOk result (open_seen self.new.open.items ≡ branches_at (site_of (policy_of topo.entry) graph.now) from.0 (path_seen self.old.path.items) enter.0 ++ open_seen self.old.open.items) }
+    {
+        let mut crossings = Vec::new(alloc);
+        add_at(topo, graph, from, self.path.as_slice(), &mut crossings, enter)?;
+        self.open_all(crossings)
+    }
+
     /// Opens the branches by which the path may go on.
-    fn expand(
+    pub(crate) fn expand(
         &mut self,
         alloc: Global,
         topo: Topo<'_>,
