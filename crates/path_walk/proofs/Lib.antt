@@ -7,6 +7,7 @@ mod Marked
 mod Marking
 mod Prefixes
 mod Pushing
+mod Retracing
 mod Rows
 mod Starts
 mod Tree
