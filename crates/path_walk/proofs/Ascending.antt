@@ -268,8 +268,9 @@ later_row p b (y ∷ ys) h = and_from (below p (b, y)) (list_all (below p) (row 
 later_rows : (p : ℕ × ℕ) (b n : ℕ) (ys : List ℕ) → p.0 < b → list_all (below p) (flat_map (λ x. map (λ y. (x, y)) ys) (range_with_len b n)) ≡ true
 later_rows p b zero ys h = refl
 later_rows p b (suc n) ys h =
-    let rest = flat_map (λ x. map (λ y. (x, y)) ys) (range_with_len (b + 1) n) in
-    list_all-append (below p) (row b ys) rest ∙ and_from (list_all (below p) (row b ys)) (list_all (below p) rest) (later_row p b ys h) (later_rows p (b + 1) n ys (omega (arith, h)))
+    let more : p.0 < b + 1 = omega (arith, h) in
+    let rest : List (ℕ × ℕ) = flat_map (λ x. map (λ y. (x, y)) ys) (range_with_len (b + 1) n) in
+    list_all-append (below p) (row b ys) rest ∙ and_from (list_all (below p) (row b ys)) (list_all (below p) rest) (later_row p b ys h) (later_rows p (b + 1) n ys more)
 
 joined_ascends : (x : ℕ) (ys : List ℕ) (rest : List (ℕ × ℕ)) → ascends (row x ys) ≡ true → ascends rest ≡ true → ((p : ℕ × ℕ) → p.0 ≡ x → list_all (below p) rest ≡ true) → ascends (row x ys ++ rest) ≡ true
 joined_ascends x [] rest up high over = high

@@ -19,8 +19,8 @@ pub returns-then-not-branch : goal.returns-then-not-branch
 returns-then-not-branch c =
     sym (none_begin (site_of (policy_of c.args.topo) c.args.graph.now) c.args.from.0 c.args.to.0 (map crossing_seen c.args.crossings.now) (sym c.in_ok-retrace.ensures.may ∙ c.if-not-branch.true))
 
-pub leads_on-requires-may : goal.leads_on-requires-may
-leads_on-requires-may c =
+pub leads_on-requires-clause-may : goal.leads_on-requires-clause-may
+leads_on-requires-clause-may c =
     let s = site_of (policy_of c.args.topo) c.args.graph.now in
     ap (λ (q : List plain.Crossing). may_begin s c.args.from.0 q) (c.in_ok-retrace.ensures.path c.if-not-branch.false) ∙ (sym c.in_ok-retrace.ensures.may ∙ c.if-not-branch.false)
 

@@ -20,8 +20,8 @@ pub returns-then-not-branch : goal.returns-then-not-branch
 returns-then-not-branch c =
     sym (none_extend (site_of (policy_of c.args.topo) c.args.graph.now) c.args.from.0 c.args.to.0 (map crossing_seen c.args.so_far.now) c.args.next.0 (sym c.in_ok-retrace.ensures.may ∙ c.if-not-branch.true))
 
-pub leads_into-requires-may : goal.leads_into-requires-may
-leads_into-requires-may c =
+pub leads_into-requires-clause-may : goal.leads_into-requires-clause-may
+leads_into-requires-clause-may c =
     let s = site_of (policy_of c.args.topo) c.args.graph.now in
     ap (λ (q : List plain.Crossing). may_begin s c.args.from.0 q) (c.in_ok-retrace.ensures.path c.if-not-branch.false) ∙ (sym c.in_ok-retrace.ensures.may ∙ c.if-not-branch.false)
 

@@ -20,21 +20,21 @@ returns-then-eq c =
     let end = c.end_of.ensures ∙ ap (λ (p : List Step). end_of s c.args.from.0 (path_seen p)) c.path.ensures in
     none_beyond_end s c.args.from.0 c.args.to.0 path c.args.next.0 (sym end ∙ eqb-true c.end_of.result.0 c.args.to.0 (sym c.if-eq.ensures))
 
-pub next-requires-branches : goal.next-requires-branches
-next-requires-branches c =
+pub next-requires-clause-branches : goal.next-requires-clause-branches
+next-requires-clause-branches c =
     let s = site_of (policy_of c.args.topo) c.args.graph.now in
     let path = path_seen c.args.search.now.path.items in
-    open_into s c.args.from.0 path (path_seen c.expand_at.new.search.path.items) c.args.next.0 (open_seen c.expand_at.new.search.open.items) c.requires.may (ap path_seen c.expand_at.ensures.path)
+    open_into s c.args.from.0 path (path_seen c.expand_at.new.self.path.items) c.args.next.0 (open_seen c.expand_at.new.self.open.items) c.requires.may (ap path_seen c.expand_at.ensures.path)
     (c.in_ok-expand_at.ensures.branches ∙ ap (λ (l : List Branch). branches_at s c.args.from.0 path c.args.next.0 ++ l) (ap open_seen c.requires.branches))
 
 pub returns : goal.returns
 returns c =
     let s = site_of (policy_of c.args.topo) c.args.graph.now in
     let path = path_seen c.args.search.now.path.items in
-    let at = path_seen c.expand_at.new.search.path.items in
-    let branches = open_seen c.expand_at.new.search.open.items in
-    let new = path_seen c.next.new.search.path.items in
-    let new_open = open_seen c.next.new.search.open.items in
+    let at = path_seen c.expand_at.new.self.path.items in
+    let branches = open_seen c.expand_at.new.self.open.items in
+    let new = path_seen c.next.new.self.path.items in
+    let new_open = open_seen c.next.new.self.open.items in
     IfOk-weaker c.next.result (λ found. IsNext s c.args.from.0 c.args.to.0 at branches found new new_open) (λ found. found ≡ list_any (goes_into path c.args.next.0) (allowed_walks s c.args.from.0 c.args.to.0))
     (λ found n. found_into s c.args.from.0 c.args.to.0 path at c.args.next.0 branches found new new_open c.requires.may (ap path_seen c.expand_at.ensures.path)
     (c.in_ok-expand_at.ensures.branches ∙ ap (λ (l : List Branch). branches_at s c.args.from.0 path c.args.next.0 ++ l) (ap open_seen c.requires.branches)) n)
