@@ -204,6 +204,7 @@ sorted_same (x ∷ xs) (y ∷ ys) up high alike =
     reached : (b : Bool) → (b ≡ false → ⊥) → b ≡ true
     reached true gone = refl
     reached false gone = absurd (gone refl)
+
     rest : x ≡ y → list_all (below x) xs ≡ true → list_all (below y) ys ≡ true → (q : ℕ × ℕ) → (b : Bool) → same_pair q x ≡ b → has_pair xs q ≡ has_pair ys q
     rest same left right q true e =
         ap (has_pair xs) (same_is q x e) ∙ (lacks x xs left ∙ sym (ap (has_pair ys) (same_is q x e ∙ same) ∙ lacks y ys right))
@@ -237,6 +238,7 @@ filter_has f (x ∷ xs) q = step (filter_has f xs q) (f x) (same_pair q x) refl 
   where
     both : (a b : Bool) → a ≡ true → true ≡ (a && (true || b))
     both a b e = sym (and_from a true e refl)
+
     step : has_pair (filter f xs) q ≡ (f q && has_pair xs q) → (b c : Bool) → f x ≡ b → same_pair q x ≡ c →
         has_pair (cond b (x ∷ filter f xs) (filter f xs)) q ≡ (f q && (same_pair q x || has_pair xs q))
     step ih true true e g =

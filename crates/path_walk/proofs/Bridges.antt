@@ -65,6 +65,7 @@ one_there false i on members = none members
     and_false : (b c : Bool) → (b && false && c) ≡ false
     and_false true c = refl
     and_false false c = refl
+
     none : (js : List IfId) → list_any (λ (j : IfId). not (i == j.0) && false && on j.0) js ≡ false
     none [] = refl
     none (j ∷ js) = ap (λ (b : Bool). b || list_any (λ (k : IfId). not (i == k.0) && false && on k.0) js) (and_false (not (i == j.0)) (on j.0)) ∙ none js

@@ -196,8 +196,8 @@ walk_stops s from to path c more e h =
     let w = parts_of s from to (path ++ c ∷ more) h in
     let to_end : end_of s (end_of s from path) (c ∷ more) ≡ to = leads_to_end s (end_of s from path) to (c ∷ more) (leads_parts s from to path (c ∷ more) w.ends).1 in
     let back : has (map (λ (d : Crossing). zone_at s d.leave) (c ∷ more)) to ≡ true =
-        subst (λ (z : ℕ). has (map (λ (d : Crossing). zone_at s d.leave) (c ∷ more)) z ≡ true) to_end
-        (ap (λ (l : List ℕ). has l (end_of s (zone_at s c.leave) more)) (sym (places_are (zone_at s) (zone_at s c.leave) more)) ∙ end_is_passed s (zone_at s c.leave) more) in
+    subst (λ (z : ℕ). has (map (λ (d : Crossing). zone_at s d.leave) (c ∷ more)) z ≡ true) to_end
+    (ap (λ (l : List ℕ). has l (end_of s (zone_at s c.leave) more)) (sym (places_are (zone_at s) (zone_at s c.leave) more)) ∙ end_is_passed s (zone_at s c.leave) more) in
     distinct_apart (places_on (zone_at s) from path) (map (λ (d : Crossing). zone_at s d.leave) (c ∷ more)) to
     (sym (ap are_distinct (places_append (zone_at s) from path (c ∷ more))) ∙ w.zones_once)
     (subst (λ (z : ℕ). has (places_on (zone_at s) from path) z ≡ true) e (end_is_passed s from path)) back

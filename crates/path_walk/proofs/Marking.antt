@@ -37,8 +37,10 @@ pub marking_more : (s : Site) (from to : ℕ) (pairs : List Crossing → List (�
     IsMarking s from to pairs old keys path branches → IsNext s from to path branches true new new_open → more ≡ with_pairs keys (pairs new) → IsMarking s from to pairs old more new new_open
 marking_more s from to pairs old keys more path new branches new_open m n e =
     let rest = flat_map pairs (to_come s from to new new_open) in
-    record { rest = ap (λ (l : List (ℕ × ℕ)). with_pairs l rest) e ∙ (sym (with_more keys (pairs new) rest)
-    ∙ (sym (ap (λ (ws : List (List Crossing)). with_pairs keys (flat_map pairs ws)) n.walks) ∙ m.rest)) }
+    record {
+      rest = ap (λ (l : List (ℕ × ℕ)). with_pairs l rest) e ∙ (sym (with_more keys (pairs new) rest)
+          ∙ (sym (ap (λ (ws : List (List Crossing)). with_pairs keys (flat_map pairs ws)) n.walks) ∙ m.rest));
+    }
 
 pub marking_last : (s : Site) (from to : ℕ) (pairs : List Crossing → List (ℕ × ℕ)) (old keys : List (ℕ × ℕ)) (path new : List Crossing) (branches new_open : List Branch) →
     IsMarking s from to pairs old keys path branches → IsNext s from to path branches false new new_open → keys ≡ with_pairs old (flat_map pairs (allowed_walks s from to))

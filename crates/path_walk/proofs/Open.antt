@@ -126,7 +126,7 @@ there s from to path b branches other h e =
     record {
       kept = wider s from q b.depth (length q) branches (omega (arith, branched_length path b h.0)) (kept_open s from path b.depth b.crossing b.depth branches h.0 (omega arith) h.2);
       walks = ap (λ l. l ++ to_come s from to path branches) (arrived s from to (most_of s - (b.depth + 1)) q other h.1 ends)
-      ∙ ap (λ l. q ∷ l) (sym (same_to_come s from to path b.depth b.crossing b.depth branches h.0 (omega arith) h.2));
+          ∙ ap (λ l. q ∷ l) (sym (same_to_come s from to path b.depth b.crossing b.depth branches h.0 (omega arith) h.2));
     }
 
 pub record GoesOnBy (s : Site) (from to : ℕ) (old : List Crossing) (old_open : List Branch) (new : List Crossing) (new_open : List Branch) : Type 0 where
@@ -156,14 +156,14 @@ elsewhere s from to path b branches h e =
     record {
       kept = open_all_of s from q branches h.1 open_now;
       walks = ap (λ l. l ++ to_come s from to path branches) (onward_by_doors s from to (m - (b.depth + 1)) q h.1 away (omega (arith, long, within))
-      ∙ ap (λ (k : ℕ). flat_map (λ c. walks_on s from to k (q ++ c ∷ [])) cs) (sym n))
-      ∙ (ap (λ l. flat_map (λ c. walks_on s from to (m - (length q + 1)) (q ++ c ∷ [])) cs ++ l) (sym (same_to_come s from to path b.depth b.crossing b.depth branches h.0 (omega arith) h.2))
-      ∙ sym (come_of s from to q branches));
+          ∙ ap (λ (k : ℕ). flat_map (λ c. walks_on s from to k (q ++ c ∷ [])) cs) (sym n))
+          ∙ (ap (λ l. flat_map (λ c. walks_on s from to (m - (length q + 1)) (q ++ c ∷ [])) cs ++ l) (sym (same_to_come s from to path b.depth b.crossing b.depth branches h.0 (omega arith) h.2))
+          ∙ sym (come_of s from to q branches));
       less =
-        let more = weight_more m x (length q) cs branches in
-        let k : m - length q ≡ m - (b.depth + 1) = omega (arith, long) in
-        let part = subst (λ (j : ℕ). length cs * size x j < size x (m - b.depth)) (sym k) (less_left m x b.depth (length cs) (omega (arith, long, within)) few) in
-        omega (arith, more, part);
+          let more = weight_more m x (length q) cs branches in
+          let k : m - length q ≡ m - (b.depth + 1) = omega (arith, long) in
+          let part = subst (λ (j : ℕ). length cs * size x j < size x (m - b.depth)) (sym k) (less_left m x b.depth (length cs) (omega (arith, long, within)) few) in
+          omega (arith, more, part);
     }
 
 -- the same, of the values after the step

@@ -164,9 +164,11 @@ extension_is s from to path i begun =
     let r = some_row f (by_door s from path i) h in
     let q = path ++ r.0 ∷ [] in
     let w = some_passes (is_allowed_walk s from to) (λ l. q ++ l) (lists_up_to (most_of s - (length path + 1)) (all_crossings s)) r.2 in
-    (some_walk s from to (goes_into path i)).1
-    (path ++ r.0 ∷ w.0, subst (λ l. is_allowed_walk s from to l ≡ true) (append_assoc path (r.0 ∷ []) w.0) w.1,
-    enters_there path w.0 r.0 i (entered (goes_on s from path) i (ifaces_of s.policy (router_at s.policy i)) r.0 r.1)))
+    (some_walk s from to (goes_into path i)).1 (
+      path ++ r.0 ∷ w.0,
+      subst (λ l. is_allowed_walk s from to l ≡ true) (append_assoc path (r.0 ∷ []) w.0) w.1,
+      enters_there path w.0 r.0 i (entered (goes_on s from path) i (ifaces_of s.policy (router_at s.policy i)) r.0 r.1),
+    ))
 
 pub none_extend : (s : Site) (from to : ℕ) (path : List Crossing) (i : ℕ) → may_begin s from path ≡ false → list_any (goes_into path i) (allowed_walks s from to) ≡ false
 none_extend s from to path i no_way =

@@ -31,9 +31,9 @@ along_more s from all k d path new x may h along e f g is =
     let c = crossing_seen (get_or all k d) in
     record {
       path_is = g ∙ (ap (λ (b : Bool). if b then path ++ x ∷ [] else path) is
-      ∙ (ap (λ (q : List plain.Crossing). q ++ x ∷ []) along.path_is
-      ∙ (ap (λ (y : plain.Crossing). map crossing_seen (take k all) ++ y ∷ []) e
-      ∙ sym (map_more crossing_seen all k d h))));
+          ∙ (ap (λ (q : List plain.Crossing). q ++ x ∷ []) along.path_is
+          ∙ (ap (λ (y : plain.Crossing). map crossing_seen (take k all) ++ y ∷ []) e
+          ∙ sym (map_more crossing_seen all k d h))));
       begun = sym (next_may s from all k d path x may h along e f) ∙ is;
     }
 
@@ -42,7 +42,7 @@ pub along_no_more : (s : Site) (from : ℕ) (all : List Crossing) (k : ℕ) (d :
     x ≡ crossing_seen (get_or all k d) → may ≡ goes_on s from path x → may ≡ false → false ≡ may_begin s from (map crossing_seen all)
 along_no_more s from all k d path x may h along e f is =
     let split : map crossing_seen all ≡ map crossing_seen (take (k + 1) all) ++ map crossing_seen (drop (k + 1) all) =
-        sym (ap (λ (l : List Crossing). map crossing_seen l) (take-append-drop (k + 1) all)) ∙ map-append crossing_seen (take (k + 1) all) (drop (k + 1) all) in
+    sym (ap (λ (l : List Crossing). map crossing_seen l) (take-append-drop (k + 1) all)) ∙ map-append crossing_seen (take (k + 1) all) (drop (k + 1) all) in
     sym (refused (may_begin s from (map crossing_seen all)) (λ g.
     false≢true (sym is ∙ (next_may s from all k d path x may h along e f
     ∙ front_begins s from (map crossing_seen (take (k + 1) all)) (map crossing_seen (drop (k + 1) all)) (subst (λ (q : List plain.Crossing). may_begin s from q ≡ true) split g)))))

@@ -1,4 +1,5 @@
-//! Walks from zone to zone, by plain search over managed routers: the first allowed walks in order.
+//! Walks from zone to zone, by plain search over managed routers: the first allowed walks in order,
+//! the crossings and links of all of them, and whether some walk begins as a packet has gone.
 #![tactic(auto)]
 
 pub mod begun;

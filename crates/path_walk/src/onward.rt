@@ -44,13 +44,7 @@ fn comes_to(topo: Topo<'_>, graph: &ZoneGraph, path: &[Step], zone: ZoneId) -> b
 }
 
 /// Whether a path starts in a zone or leads to it after some crossing.
-fn meets_zone(
-    topo: Topo<'_>,
-    graph: &ZoneGraph,
-    from: ZoneId,
-    path: &[Step],
-    zone: ZoneId,
-) -> bool
+fn meets_zone(topo: Topo<'_>, graph: &ZoneGraph, from: ZoneId, path: &[Step], zone: ZoneId) -> bool
     requires { IsGraphOf (policy_of topo) graph.now }
     ensures { result ≡ ((from.0 == zone.0) || list_any (λ c. zone_at (site_of (policy_of topo.entry) graph.now) c.leave.0 == zone.0) path.now) }
 {
@@ -58,13 +52,7 @@ fn meets_zone(
 }
 
 /// Whether a path passes a zone, the first one included.
-fn passes_zone(
-    topo: Topo<'_>,
-    graph: &ZoneGraph,
-    from: ZoneId,
-    path: &[Step],
-    zone: ZoneId,
-) -> bool
+fn passes_zone(topo: Topo<'_>, graph: &ZoneGraph, from: ZoneId, path: &[Step], zone: ZoneId) -> bool
     requires { IsGraphOf (policy_of topo) graph.now }
     ensures { result ≡ has (places_on (zone_at (site_of (policy_of topo.entry) graph.now)) from.0 (path_seen path.now)) zone.0 }
 {

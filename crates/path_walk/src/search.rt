@@ -133,7 +133,14 @@ impl Search {
         ensures branches { OnOk result (open_seen self.new.open.items ≡ branches_at (site_of (policy_of topo.entry) graph.now) from.0 (path_seen self.old.path.items) enter.0 ++ open_seen self.old.open.items) }
     {
         let mut crossings = Vec::new(alloc);
-        add_at(topo, graph, from, self.path.as_slice(), &mut crossings, enter)?;
+        add_at(
+            topo,
+            graph,
+            from,
+            self.path.as_slice(),
+            &mut crossings,
+            enter,
+        )?;
         self.open_all(crossings)
     }
 

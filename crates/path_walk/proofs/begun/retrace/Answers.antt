@@ -10,10 +10,12 @@ loop-c-init c =
     (record { path_is = ap path_seen c.requires.start; begun = empty_begins (site_of (policy_of c.args.topo) c.args.graph.now) c.args.from.0 }, refl)
 
 pub loop-c-preserved : goal.loop-c-preserved
-loop-c-preserved c =
-    (along_more (site_of (policy_of c.args.topo) c.args.graph.now) c.args.from.0 c.args.crossings.now c.loop-c.c-index (record { enter = record { 0 = 0 }; leave = record { 0 = 0 } })
-    (path_seen c.loop-c.search.path.items) (path_seen c.extend.new.self.path.items) (step_seen c.of.result) c.in_ok-extend.field-0 c.loop-c-test.true c.loop-c.invariant.0
-    c.of.ensures c.in_ok-extend.ensures.may c.in_ok-extend.ensures.path c.if-not-branch.false, c.extend.ensures.branches ∙ c.loop-c.invariant.1)
+loop-c-preserved c = (
+  along_more (site_of (policy_of c.args.topo) c.args.graph.now) c.args.from.0 c.args.crossings.now c.loop-c.c-index (record { enter = record { 0 = 0 }; leave = record { 0 = 0 } })
+      (path_seen c.loop-c.search.path.items) (path_seen c.extend.new.self.path.items) (step_seen c.of.result) c.in_ok-extend.field-0 c.loop-c-test.true c.loop-c.invariant.0
+      c.of.ensures c.in_ok-extend.ensures.may c.in_ok-extend.ensures.path c.if-not-branch.false,
+  c.extend.ensures.branches ∙ c.loop-c.invariant.1,
+)
 
 pub returns-then-not-branch-clause-may : goal.returns-then-not-branch-clause-may
 returns-then-not-branch-clause-may c =

@@ -22,6 +22,8 @@ returns-then-eq-clause-more c =
 pub loop-search-init : goal.loop-search-init
 loop-search-init c =
     let s = site_of (policy_of c.args.topo) c.args.graph.now in
-    let other : c.args.from.0 ≢ c.args.to.0 = λ e. false≢true (c.if-eq.ensures ∙ eq-eqb c.args.from.0 c.args.to.0 e) in
-    (listed_first s c.args.from.0 c.args.to.0 (walks_seen c.new-walks.result.items) (path_seen c.in_ok-search.search.path.items) (open_seen c.in_ok-search.search.open.items) other
-    (ap walks_seen c.new-walks.ensures.items) (ap path_seen c.in_ok-search.ensures.path) c.in_ok-search.ensures.branches, omega (arith, ap length c.new-walks.ensures.items))
+    let other : c.args.from.0 ≢ c.args.to.0 = λ e. false≢true (c.if-eq.ensures ∙ eq-eqb c.args.from.0 c.args.to.0 e) in (
+      listed_first s c.args.from.0 c.args.to.0 (walks_seen c.new-walks.result.items) (path_seen c.in_ok-search.search.path.items) (open_seen c.in_ok-search.search.open.items) other
+          (ap walks_seen c.new-walks.ensures.items) (ap path_seen c.in_ok-search.ensures.path) c.in_ok-search.ensures.branches,
+      omega (arith, ap length c.new-walks.ensures.items),
+    )
