@@ -1,17 +1,17 @@
 -- What the beginning of an allowed walk is, and how it goes on by one crossing.
-use Rattle.std.proofs.Common.{◌≡◌, ℕ, zero, suc, ◌+◌, ◌<◌, ◌≤◌, ◌⊎◌, Bool, true, false, not, cond, ◌&&◌, ◌||◌, List, [], ◌∷◌, ◌++◌, length, map, refl, sym, ap, subst, ◌∙◌, ⊎_elim, arith}
-use Rattle.std.specs.Prelude.{IsTrue, ◌==◌, filter, flat_map, nat_lt}
+use Rattle.std.proofs.Common.{◌≡◌, ℕ, Bool, true, false, not, ◌&&◌, ◌||◌, List, [], ◌∷◌, ◌++◌, map, refl, sym, ap, subst, ◌∙◌, ⊎_elim}
+use Rattle.std.specs.Prelude.{◌==◌}
 use Rattle.std.specs.List.{list_any, list_all}
-use Rattle.std.proofs.lemmas.List.{append-nil, append_assoc, map-append}
+use Rattle.std.proofs.lemmas.List.{map-append}
 use Rattle.std.proofs.lemmas.List.Folds.{list_any-append, list_all-append}
 use Rattle.std.proofs.lemmas.List.Concat.{flat_map-append}
-use Rattle.std.proofs.lemmas.Bool.{and_parts, and_from, and_left, and_right, or_cases, or_left, or_right, or_parts, eqb-true, eq-eqb, false≢true, cases_eq, not-true, not_from_false, not_from_true}
+use Rattle.std.proofs.lemmas.Bool.{and_parts, and_from, or_cases, or_left, or_right, or_parts, eqb-true, eq-eqb, false≢true, not-true, not_from_false}
 use Rattle.policy_model.specs.Lists.{has, are_distinct}
 use Rattle.policy_model.specs.Policy.{Policy, router_at}
 use Rattle.policy_model.specs.Paths.{Crossing, leads, places_on, routers_on, interfaces_on}
 use Rattle.policy_model.specs.Zones.{Site, zone_at}
 use Rattle.policy_model.specs.Walks.{is_crossing, has_two_of, is_walk, is_unrestricted, is_allowed_walk}
-use Rattle.policy_model.proofs.AllWalks.{WalkParts, parts_of}
+use Rattle.policy_model.proofs.AllWalks.{parts_of}
 use Rattle.path_walk.specs.Search.{end_of, may_begin, goes_on}
 
 -- ---- tests

@@ -1,14 +1,14 @@
 -- The pairs of all allowed walks are the marks.
-use Rattle.std.proofs.Common.{◌≡◌, ℕ, ◌<◌, ◌⊎◌, Bool, true, false, cond, not, ◌&&◌, ◌||◌, List, [], ◌∷◌, ◌++◌, length, map, refl, sym, ap, subst, ◌∙◌, ⊎_elim, Ok, Result, IfOk}
-use Rattle.std.specs.Prelude.{◌==◌, filter, flat_map, nat_lt, IsTrue}
+use Rattle.std.proofs.Common.{◌≡◌, ℕ, ◌<◌, Bool, true, false, cond, not, ◌&&◌, ◌||◌, List, [], ◌∷◌, length, map, refl, sym, ap, subst, ◌∙◌, ⊎_elim}
+use Rattle.std.specs.Prelude.{◌==◌, filter, flat_map}
 use Rattle.std.specs.List.{list_any, list_all}
 use Rattle.std.proofs.lemmas.Bool.{and_parts, or_cases, eqb-true, eq-eqb, false≢true}
 use Rattle.std.proofs.lemmas.List.Folds.{list_any-append}
-use Rattle.policy_model.specs.Lists.{numbers_below, pairs_of}
+use Rattle.policy_model.specs.Lists.{pairs_of}
 use Rattle.policy_model.specs.Policy.{router_at, is_managed, all_ifaces}
 use Rattle.policy_model.specs.Paths.{Crossing, same_crossing, all_steps, is_through_router, crosses_managed}
 use Rattle.policy_model.specs.Zones.{Site, zone_at}
-use Rattle.policy_model.specs.Walks.{is_crossing, is_allowed_walk, all_crossings, allowed_walks}
+use Rattle.policy_model.specs.Walks.{is_crossing, allowed_walks}
 use Rattle.policy_model.specs.Marks.{Link, links_on, marked_crossings, marked_links}
 use Rattle.policy_model.proofs.Tested.{crossing_below}
 use Rattle.policy_model.proofs.AllWalks.{parts_of, some_walk}

@@ -1,7 +1,7 @@
 -- A search by branches: what one step does to the walks that are still to be found.
 use Rattle.std.proofs.Common.{◌≡◌, ℕ, zero, suc, ◌+◌, ◌-◌, ◌*◌, ◌<◌, ◌≤◌, Bool, true, false, not, cond, List, [], ◌∷◌, ◌++◌, length, map, take, refl, sym, ap, subst, ◌∙◌, arith}
-use Rattle.std.specs.Prelude.{◌==◌, filter, flat_map, if◌then◌else◌}
-use Rattle.std.proofs.lemmas.List.{append_assoc, length-append, length-map, length-take-le, take_all, take-take, take-append-le}
+use Rattle.std.specs.Prelude.{◌==◌, filter, flat_map}
+use Rattle.std.proofs.lemmas.List.{length-append, length-take-le, take_all, take-take, take-append-le}
 use Rattle.std.proofs.lemmas.List.Concat.{flat_map-append}
 use Rattle.std.proofs.lemmas.List.Folds.{flat_map-map}
 use Rattle.std.proofs.lemmas.List.Sums.{length-filter, count_by-le-length}

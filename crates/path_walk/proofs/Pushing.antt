@@ -1,5 +1,5 @@
 -- The vectors of a search as the path and the branches that they show.
-use Rattle.std.proofs.Common.{◌≡◌, ℕ, List, [], ◌∷◌, ◌++◌, length, map, take, reverse, refl, sym, ap, ◌∙◌}
+use Rattle.std.proofs.Common.{◌≡◌, ℕ, List, [], ◌∷◌, ◌++◌, length, map, take, reverse, sym, ap, ◌∙◌}
 use Rattle.std.proofs.lemmas.List.{append_assoc, map-append, take-map, reverse-append}
 use Rattle.policy_model.specs.Paths as plain
 use Rattle.path_walk.specs.Search as search

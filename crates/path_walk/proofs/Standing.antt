@@ -1,20 +1,18 @@
 -- What a search tells that stands at a path already.
-use Rattle.std.proofs.Common.{◌≡◌, ◌≢◌, ℕ, ◌+◌, ◌-◌, ◌≤◌, Bool, true, false, not, List, [], ◌∷◌, ◌++◌, length, map, take, drop, get_or, refl, sym, ap, subst, ◌∙◌, arith}
-use Rattle.std.specs.Prelude.{◌==◌, flat_map, if◌then◌else◌}
+use Rattle.std.proofs.Common.{◌≡◌, ◌≢◌, ℕ, ◌-◌, Bool, true, false, not, List, [], ◌++◌, length, map, sym, ap, subst, ◌∙◌}
 use Rattle.std.specs.List.{list_any}
-use Rattle.std.proofs.lemmas.Bool.{false≢true}
-use Rattle.std.proofs.lemmas.List.{append-nil, map-append, take_more}
+use Rattle.std.proofs.lemmas.List.{append-nil}
 use Rattle.policy_model.specs.Lists.{is_nothing}
 use Rattle.policy_model.specs.Policy.{router_at}
 use Rattle.policy_model.specs.Paths.{Crossing, is_start_of}
-use Rattle.policy_model.specs.Zones.{Site, zone_at}
+use Rattle.policy_model.specs.Zones.{Site}
 use Rattle.policy_model.specs.Walks.{is_allowed_walk, allowed_walks}
 use Rattle.policy_model.specs.Delivery.{goes_into}
 use Rattle.policy_model.proofs.AllWalks.{some_walk}
 use Rattle.topology.specs.Kept.{ifaces_of}
-use Rattle.path_walk.specs.Search.{Branch, AreOpen, branches_of, branches_at, by_door, to_come, end_of, may_begin, goes_on, walks_on, walks_into, most_of, step_of}
+use Rattle.path_walk.specs.Search.{Branch, AreOpen, branches_of, branches_at, by_door, to_come, end_of, may_begin, walks_into, most_of, step_of}
 use Rattle.path_walk.specs.Next.{IsNext}
-use Rattle.path_walk.proofs.Fronts.{refused, front_begins, goes_on_is, walk_stops}
+use Rattle.path_walk.proofs.Fronts.{refused, walk_stops}
 use Rattle.path_walk.proofs.Tree.{length_within, arrived}
 use Rattle.path_walk.proofs.Open.{come_by, open_more}
 use Rattle.path_walk.proofs.Going.{zones_differ}

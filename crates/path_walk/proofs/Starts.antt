@@ -1,16 +1,15 @@
 -- Where a search starts, and what it finds then.
-use Rattle.std.proofs.Common.{◌≡◌, ◌≢◌, ℕ, zero, suc, ◌+◌, ◌-◌, ◌<◌, ◌≤◌, Bool, true, false, not, cond, ◌&&◌, List, [], ◌∷◌, ◌++◌, length, map, refl, sym, ap, subst, ◌∙◌, ⊎_elim, arith}
-use Rattle.std.specs.Prelude.{IsTrue, ◌==◌, filter, flat_map}
+use Rattle.std.proofs.Common.{◌≡◌, ℕ, ◌+◌, ◌-◌, ◌≤◌, true, false, not, ◌&&◌, List, [], ◌∷◌, ◌++◌, length, refl, sym, ap, ◌∙◌, arith}
+use Rattle.std.specs.Prelude.{◌==◌, filter, flat_map}
 use Rattle.std.specs.List.{list_any, list_all}
-use Rattle.std.proofs.lemmas.List.{append-nil, append_assoc, length-append, map-id}
-use Rattle.std.proofs.lemmas.Bool.{and_parts, and_from, and_right, or_cases, or_left, or_right, eqb-true, eq-eqb, false≢true, not_from_false, not_from_true}
-use Rattle.policy_model.specs.Lists.{has, are_distinct, lists_up_to, is_nothing, pairs_of}
-use Rattle.policy_model.specs.Policy.{Policy, Restriction, all_ifaces, router_at, is_managed}
-use Rattle.policy_model.specs.Paths.{Crossing, is_start_of, same_crossing, leads, places_on, routers_on, all_steps, is_through_router, crosses_managed}
-use Rattle.policy_model.specs.Zones.{Site, zone_at}
-use Rattle.policy_model.specs.Walks.{is_crossing, has_two_of, is_allowed_walk, is_unrestricted, all_crossings, all_paths, allowed_walks}
-use Rattle.path_walk.specs.Search.{Branch, AreOpen, branched, branches_of, to_come, end_of, may_begin, goes_on, walks_on, most_of}
-use Rattle.path_walk.proofs.Fronts.{MayBegin, begins_by, refused, any_none}
+use Rattle.std.proofs.lemmas.List.{append-nil, map-id}
+use Rattle.std.proofs.lemmas.Bool.{and_from, and_right, eq-eqb, not_from_false}
+use Rattle.policy_model.specs.Policy.{Restriction}
+use Rattle.policy_model.specs.Paths.{Crossing}
+use Rattle.policy_model.specs.Zones.{Site}
+use Rattle.policy_model.specs.Walks.{has_two_of, is_allowed_walk, all_crossings, all_paths, allowed_walks}
+use Rattle.path_walk.specs.Search.{AreOpen, branches_of, to_come, end_of, may_begin, goes_on, walks_on, most_of}
+use Rattle.path_walk.proofs.Fronts.{begins_by, any_none}
 use Rattle.path_walk.proofs.Tree.{onward_by_doors, none_home}
 use Rattle.path_walk.proofs.Open.{come_of, open_all_of}
 

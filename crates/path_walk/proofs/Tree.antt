@@ -1,20 +1,18 @@
 -- The walks that begin with a path: itself, or those that go on by one crossing.
-use Rattle.std.proofs.Common.{◌≡◌, ℕ, zero, suc, ◌+◌, ◌-◌, ◌<◌, ◌≤◌, Bool, true, false, not, cond, ◌&&◌, List, [], ◌∷◌, ◌++◌, length, map, refl, sym, ap, subst, ◌∙◌, arith, ⊎_elim}
-use Rattle.std.specs.Prelude.{IsTrue, ◌==◌, filter, flat_map, nat_lt}
-use Rattle.std.specs.List.{list_any, list_all}
-use Rattle.std.proofs.lemmas.List.{append-nil, append_assoc, length-append, length-map}
+use Rattle.std.proofs.Common.{◌≡◌, ℕ, zero, suc, ◌+◌, ◌-◌, ◌≤◌, Bool, true, false, not, cond, ◌&&◌, List, [], ◌∷◌, ◌++◌, length, map, refl, sym, ap, subst, ◌∙◌, arith}
+use Rattle.std.specs.Prelude.{◌==◌, filter, flat_map, nat_lt}
+use Rattle.std.proofs.lemmas.List.{append-nil, append_assoc, length-append}
 use Rattle.std.proofs.lemmas.Bool.{and_parts, and_from, eqb-true, eq-eqb, false≢true, not_from_true}
 use Rattle.std.proofs.lemmas.List.Elements.{filter_agree}
-use Rattle.policy_model.specs.Lists.{has, are_distinct, lists_up_to, pairs_of}
-use Rattle.policy_model.specs.Policy.{Policy, router_at, is_managed, all_ifaces, managed_routers}
+use Rattle.policy_model.specs.Lists.{lists_up_to}
+use Rattle.policy_model.specs.Policy.{router_at, is_managed, all_ifaces}
 use Rattle.policy_model.specs.Paths.{Crossing, all_steps, is_through_router, crosses_managed}
 use Rattle.policy_model.specs.Zones.{Site, zone_at}
-use Rattle.policy_model.specs.Walks.{is_crossing, is_allowed_walk, all_crossings, all_paths, allowed_walks}
+use Rattle.policy_model.specs.Walks.{is_crossing, is_allowed_walk, all_crossings}
 use Rattle.policy_model.proofs.AllWalks.{no_longer, parts_of}
-use Rattle.topology.specs.Kept.{ifaces_of}
 use Rattle.path_walk.specs.Search.{end_of, may_begin, goes_on, walks_on, doors_in, most_of, step_of, by_door}
 use Rattle.path_walk.proofs.Rows.{flat_map_kept, filter_kept, filter_narrower, filter_flat, map_twice, map_same, flat_map_same, flat_map_none, filter_none}
-use Rattle.path_walk.proofs.Fronts.{refused, beginning_of, walk_begins, walk_ends, walk_stops, walk_by, end_more, going_on, goes_on_is}
+use Rattle.path_walk.proofs.Fronts.{refused, beginning_of, walk_begins, walk_ends, walk_stops, walk_by, going_on, goes_on_is}
 
 -- a path that no walk begins with
 pub no_walks : (s : Site) (from to n : ℕ) (path : List Crossing) → may_begin s from path ≡ false → walks_on s from to n path ≡ []

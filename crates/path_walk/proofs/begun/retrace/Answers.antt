@@ -1,4 +1,4 @@
-use Rattle.std.proofs.Common.{◌≡◌, ◌∙◌, ap, refl}
+use Rattle.std.proofs.Common.{◌∙◌, ap, refl}
 use Rattle.topology.specs.View.{policy_of}
 use Rattle.path_walk.specs.Seen.{site_of, path_seen, step_seen}
 use Rattle.path_walk.proofs.Starts.{empty_begins}

@@ -1,4 +1,4 @@
-use Rattle.std.proofs.Common.{◌≡◌, ◌<◌, ℕ, length, arith, false, ◌&&◌}
+use Rattle.std.proofs.Common.{length, arith, ◌&&◌}
 use Rattle.std.specs.Prelude.{◌==◌}
 use Rattle.std.proofs.lemmas.Bool.{eqb-true, and_right}
 use Rattle.policy_model.specs.Policy.{router_at, net_at, is_managed}

@@ -1,4 +1,4 @@
-use Rattle.std.proofs.Common.{◌≡◌, ◌<◌, ◌≤◌, ℕ, length, arith, false, ap}
+use Rattle.std.proofs.Common.{◌≤◌, length, arith, ap}
 use Rattle.std.specs.Prelude.{◌==◌}
 use Rattle.policy_model.specs.Policy.{router_at}
 use Rattle.topology.specs.View.{policy_of, sources_of}

@@ -1,6 +1,3 @@
-use Rattle.std.proofs.Common.{◌≡◌, take, get_or}
-use Rattle.path_walk.specs.Seen.{path_seen}
-use Rattle.path_walk.specs.Pairs.{crossing_pairs}
 use Rattle.path_walk.proofs.Marking.{with_one_more, crossing_more}
 use Rattle.path_walk.proofs.marks.add_crossings.Goals as goal
 

@@ -1,4 +1,3 @@
-use Rattle.std.proofs.Common.{◌≡◌, take, get_or}
 use Rattle.path_walk.proofs.Marking.{with_one_more, link_more}
 use Rattle.path_walk.proofs.marks.add_links.Goals as goal
 

@@ -1,4 +1,4 @@
-use Rattle.std.proofs.Common.{◌≡◌, ◌≤◌, take}
+use Rattle.std.proofs.Common.{◌≡◌, take}
 use Rattle.path_walk.specs.Seen.{path_seen}
 use Rattle.path_walk.specs.Pairs.{with_pairs, link_pairs}
 use Rattle.path_walk.proofs.marks.add_links.Given as goal

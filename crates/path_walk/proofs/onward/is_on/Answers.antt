@@ -1,4 +1,4 @@
-use Rattle.std.proofs.Common.{◌≡◌, ◌∙◌, sym}
+use Rattle.std.proofs.Common.{◌∙◌, sym}
 use Rattle.path_walk.proofs.Bridges.{ifaces_passed_by}
 use Rattle.path_walk.proofs.onward.is_on.Goals as goal
 

@@ -1,9 +1,9 @@
-use Rattle.std.proofs.Common.{◌≡◌, ◌∙◌, sym, ap, ◌++◌, ◌∷◌, []}
+use Rattle.std.proofs.Common.{◌∙◌, sym, ap, ◌++◌, ◌∷◌, []}
 use Rattle.std.specs.List.{list_all}
 use Rattle.std.specs.Prelude.{not}
 use Rattle.policy_model.specs.Paths.{interfaces_on}
 use Rattle.policy_model.specs.Walks.{has_two_of}
-use Rattle.topology.specs.View.{policy_of, sources_of}
+use Rattle.topology.specs.View.{sources_of}
 use Rattle.path_walk.specs.Seen.{path_seen, step_seen}
 use Rattle.path_walk.proofs.Bridges.{allowed_is}
 use Rattle.path_walk.proofs.onward.is_unrestricted.Goals as goal

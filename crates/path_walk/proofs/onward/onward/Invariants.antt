@@ -1,8 +1,6 @@
-use Rattle.std.proofs.Common.{◌≡◌, ◌&&◌, ◌||◌, not, false, true, take, drop, [], ◌∷◌, ◌++◌}
-use Rattle.std.specs.Prelude.{◌==◌}
-use Rattle.std.specs.List.{list_any, list_all}
-use Rattle.topology.specs.View.{policy_of, sources_of}
-use Rattle.path_walk.specs.Seen.{site_of, path_seen, step_seen}
+use Rattle.std.proofs.Common.{◌≡◌, take}
+use Rattle.topology.specs.View.{policy_of}
+use Rattle.path_walk.specs.Seen.{site_of, path_seen}
 use Rattle.std.specs.Prelude.{flat_map, map}
 use Rattle.path_walk.specs.Search.{by_door}
 use Rattle.path_walk.proofs.onward.onward.Given as goal

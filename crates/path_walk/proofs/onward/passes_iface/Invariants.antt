@@ -1,12 +1,6 @@
-use Rattle.std.proofs.Common.{◌≡◌, ◌&&◌, ◌||◌, not, false, true, take, drop, [], ◌∷◌, ◌++◌}
+use Rattle.std.proofs.Common.{◌≡◌, ◌||◌, false, take}
 use Rattle.std.specs.Prelude.{◌==◌}
-use Rattle.std.specs.List.{list_any, list_all}
-use Rattle.topology.specs.View.{policy_of}
-use Rattle.path_walk.specs.Seen.{site_of, path_seen, step_seen, two_on}
-use Rattle.policy_model.specs.Zones.{zone_at}
-use Rattle.policy_model.specs.Policy.{router_at}
-use Rattle.policy_model.specs.Lists.{has}
-use Rattle.policy_model.specs.Paths.{interfaces_on}
+use Rattle.std.specs.List.{list_any}
 use Rattle.path_walk.proofs.onward.passes_iface.Given as goal
 
 abbrev pub invariant-loop-c : goal.invariant-loop-c

@@ -1,4 +1,4 @@
-use Rattle.std.proofs.Common.{◌≡◌, ◌∙◌, sym}
+use Rattle.std.proofs.Common.{◌∙◌, sym}
 use Rattle.topology.specs.View.{policy_of}
 use Rattle.path_walk.proofs.Bridges.{routers_passed}
 use Rattle.path_walk.proofs.onward.passes_router.Goals as goal

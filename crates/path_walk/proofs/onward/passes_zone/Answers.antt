@@ -1,4 +1,4 @@
-use Rattle.std.proofs.Common.{◌≡◌, ◌∙◌, sym}
+use Rattle.std.proofs.Common.{◌∙◌, sym}
 use Rattle.policy_model.specs.Zones.{zone_at}
 use Rattle.topology.specs.View.{policy_of}
 use Rattle.path_walk.specs.Seen.{site_of}

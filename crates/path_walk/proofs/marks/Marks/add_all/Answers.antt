@@ -1,13 +1,12 @@
-use Rattle.std.proofs.Common.{◌≡◌, ◌≢◌, ◌∙◌, ap, sym, subst, false, true, Bool}
+use Rattle.std.proofs.Common.{◌≡◌, ◌≢◌, ◌∙◌, ap, sym, subst, Bool}
 use Rattle.std.proofs.lemmas.Bool.{eqb-true, eq-eqb, false≢true}
 use Rattle.topology.specs.View.{policy_of}
 use Rattle.path_walk.specs.Seen.{site_of, path_seen}
 use Rattle.path_walk.specs.Stack.{open_seen}
 use Rattle.path_walk.specs.Next.{IsNext}
 use Rattle.path_walk.specs.Pairs.{crossing_pairs, link_pairs, with_pairs}
-use Rattle.path_walk.specs.declared.step.Step.{Step}
 use Rattle.path_walk.proofs.Starts.{no_walks_home}
-use Rattle.path_walk.proofs.Marking.{open_first, marking_first, marking_more, marking_last, marking_none}
+use Rattle.path_walk.proofs.Marking.{open_first, marking_first, marking_more, marking_none}
 use Rattle.path_walk.proofs.marks.Marks.add_all.Goals as goal
 
 pub loop-search-init : goal.loop-search-init

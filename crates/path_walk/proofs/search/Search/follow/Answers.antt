@@ -1,7 +1,3 @@
-use Rattle.std.proofs.Common.{◌≡◌, ◌∙◌, sym, ap, List, ◌++◌, ◌∷◌, []}
-use Rattle.std.proofs.lemmas.List.{take-map}
-use Rattle.path_walk.specs.declared.step.Step.{Step}
-use Rattle.path_walk.specs.Seen.{path_seen, step_seen}
 use Rattle.path_walk.proofs.Pushing.{followed}
 use Rattle.path_walk.proofs.search.Search.follow.Goals as goal
 

@@ -1,9 +1,8 @@
-use Rattle.std.proofs.Common.{◌≡◌}
 use Rattle.topology.specs.View.{policy_of}
 use Rattle.path_walk.specs.Seen.{site_of, path_seen}
 use Rattle.path_walk.specs.Stack.{branch_seen, open_seen}
 use Rattle.path_walk.proofs.Pushing.{pushed}
-use Rattle.path_walk.proofs.Going.{IsStepped, HasGoneOn, next_there, next_on}
+use Rattle.path_walk.proofs.Going.{HasGoneOn, next_there, next_on}
 use Rattle.path_walk.proofs.search.Search.next.Goals as goal
 
 pub returns-then-branch : goal.returns-then-branch
