@@ -1,0 +1,4 @@
+pub mod Finding
+pub mod Items
+pub mod Moving
+pub mod Placed

@@ -1,0 +1,13 @@
+//! What addresses mean where translations are in force: the prefix of each network, and the network
+//! of each address.
+#![tactic(auto)]
+
+mod fail;
+mod place;
+mod table;
+mod view;
+mod views;
+
+pub use fail::{ViewAt, ViewFail};
+pub use view::View;
+pub use views::Views;
