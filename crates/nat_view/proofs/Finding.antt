@@ -1,9 +1,9 @@
 -- The translation that counts for a network.
-use Rattle.std.proofs.Common.{◌≡◌, ℕ, ◌+◌, ◌<◌, Bool, true, false, cond, List, [], ◌∷◌, length, drop, map, refl, sym, ap, subst, ◌∙◌, get_or}
+use Rattle.std.proofs.Common.{◌≡◌, ℕ, ◌+◌, ◌<◌, Bool, true, false, cond, List, [], ◌∷◌, length, drop, map, sym, ap, subst, ◌∙◌, get_or}
 use Rattle.std.specs.Prelude.{Option, Some, None, option_map, find, IsTrue}
 use Rattle.std.specs.List.{list_all}
 use Rattle.std.proofs.lemmas.Bool.{and_parts, eqb-true}
-use Rattle.std.proofs.lemmas.List.{at_drop_more, get_or_read}
+use Rattle.std.proofs.lemmas.List.{at_drop_more}
 use Rattle.spoc_base.specs.Address.{Cidr}
 use Rattle.policy_model.specs.Lists.{has}
 use Rattle.policy_model.specs.Policy.{Policy, net_of}

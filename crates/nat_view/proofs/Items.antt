@@ -1,9 +1,9 @@
 -- A table of prefixes as the items of a tree.
-use Rattle.std.proofs.Common.{◌≡◌, ◌≢◌, ℕ, ◌+◌, ◌-◌, ◌<◌, ◌≤◌, ◌⊎◌, inl, inr, Bool, true, false, List, [], ◌∷◌, ◌++◌, length, map, refl, sym, ap, subst, ◌∙◌, ⊎_elim, get_or, arith}
-use Rattle.std.specs.Prelude.{Option, Some, None, nat_lt, nat_le, ◌&&◌, slice_index_or, IsTrue}
+use Rattle.std.proofs.Common.{◌≡◌, ℕ, ◌+◌, ◌<◌, ◌≤◌, true, List, [], ◌∷◌, ◌++◌, length, map, sym, ap, subst, ◌∙◌, ⊎_elim, get_or, arith}
+use Rattle.std.specs.Prelude.{Some, nat_le, ◌&&◌, slice_index_or}
 use Rattle.std.specs.List.{Contains}
-use Rattle.std.proofs.lemmas.Bool.{and_parts, and_from, cases_lt, cases_eq, ltb-true, lt-ltb, le-leb, leb-true}
-use Rattle.std.proofs.lemmas.List.{get_or-map, length-map, length_push, get_or_push, get_or_append_left, map_push}
+use Rattle.std.proofs.lemmas.Bool.{and_parts, and_from, cases_lt, ltb-true, lt-ltb, le-leb, leb-true}
+use Rattle.std.proofs.lemmas.List.{get_or-map, length_push, get_or_push, get_or_append_left, map_push}
 use Rattle.std.proofs.lemmas.List.FromFn.{length-map-range_with_len, get_or-map-range_with_len, map-range_with_len_more}
 use Rattle.spoc_base.specs.Address.{Cidr, same_prefix, any_address}
 use Rattle.spoc_base.specs.Shown.{cidr_of}

@@ -2,3 +2,4 @@ pub mod Finding
 pub mod Items
 pub mod Moving
 pub mod Placed
+pub mod Placing

@@ -1,5 +1,5 @@
 -- Moved addresses are addresses.
-use Rattle.std.proofs.Common.{◌≡◌, ℕ, ◌+◌, ◌-◌, ◌*◌, ◌^◌, ◌<◌, ◌≤◌, true, ap, arith}
+use Rattle.std.proofs.Common.{◌≡◌, ℕ, ◌+◌, ◌-◌, ◌^◌, ◌<◌, ◌≤◌, true, ap, arith}
 use Rattle.std.proofs.lemmas.Bool.{and_parts, leb-true, ltb-true, le-leb, lt-ltb, and_from}
 use Rattle.std.proofs.Math.Pow.{pow_pos}
 use Rattle.spoc_base.specs.Address.{Cidr, Interval, size_of, prefix_holds, addresses, interval_covers}

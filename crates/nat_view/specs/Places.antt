@@ -1,5 +1,5 @@
 -- Which table each zone and each router has. All zones come before all routers.
-use Rattle.std.specs.Prelude.{◌≡◌, ℕ, ◌+◌, ◌-◌, ◌<◌, ◌≤◌, List, [], length, map, take, drop, slice_index_or, nat_lt, if◌then◌else◌}
+use Rattle.std.specs.Prelude.{◌≡◌, ℕ, ◌-◌, ◌<◌, ◌≤◌, List, [], length, map, take, drop, slice_index_or, nat_lt, if◌then◌else◌}
 use Rattle.std.specs.List.{All}
 use Rattle.policy_model.specs.Policy.{Policy}
 use Rattle.policy_model.specs.Tags.{Views}

@@ -1,8 +1,8 @@
 -- What contracts see of views.
-use Rattle.std.specs.Prelude.{◌≡◌, ℕ, ◌<◌, ◌≤◌, ◌⊎◌, Bool, false, List, length, filter, slice_index_or, nat_lt, [], Some, IsTrue}
+use Rattle.std.specs.Prelude.{◌≡◌, ℕ, ◌<◌, ◌≤◌, ◌⊎◌, Bool, List, length, filter, nat_lt, Some, IsTrue}
 use Rattle.spoc_base.specs.Address.{Cidr}
 use Rattle.policy_model.specs.Policy.{Policy, all_nets}
-use Rattle.policy_model.specs.Tags.{Views, zone_view, router_view}
+use Rattle.policy_model.specs.Tags.{Views}
 use Rattle.policy_model.specs.Places.{prefix_in}
 use Rattle.policy_model.specs.Blocks.{is_part_of}
 use Rattle.policy_model.specs.Faults.{is_same_prefix}

@@ -1,5 +1,5 @@
 -- What is kept for the views: a table of prefixes and a tree for each different list of tags.
-use Rattle.std.specs.Prelude.{◌≡◌, ℕ, ◌<◌, List, [], length, map, slice_index_or, Some}
+use Rattle.std.specs.Prelude.{◌≡◌, ℕ, ◌<◌, List, length, map, slice_index_or, Some}
 use Rattle.spoc_base.specs.Address.{Cidr, any_address}
 use Rattle.policy_model.specs.Lists.{numbers_below}
 use Rattle.policy_model.specs.Policy.{Policy, net_of}

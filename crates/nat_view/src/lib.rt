@@ -2,12 +2,14 @@
 //! of each address.
 #![tactic(auto)]
 
+mod build;
 mod fail;
 mod place;
 mod table;
 mod view;
 mod views;
 
+pub use build::view_table;
 pub use fail::{ViewAt, ViewFail};
 pub use view::View;
 pub use views::Views;

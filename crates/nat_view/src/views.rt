@@ -1,27 +1,19 @@
-ghost use Rattle.std.specs.Prelude.{◌≡◌, ◌<◌, ◌+◌, ◌≤◌, length, map, IfOk, IfErr, [], slice_index_or};
-ghost use Rattle.std.specs.List.{All};
-ghost use Rattle.std.proofs.Props.{props};
-ghost use Rattle.policy_model.specs.Faults.{all_views, same_numbers};
 ghost use Rattle.topology.specs.View.{policy_of};
-ghost use Rattle.nat_view.specs.Places.{AreTables, ArePlaced, HasTable, place_at};
-ghost use Rattle.nat_view.specs.Shown.{numbers_of, tags_of, IsTableOf, RefusesTable};
+ghost use Rattle.nat_view.specs.Places.{AreTables};
+ghost use Rattle.std.proofs.Props.{props};
 
-use crate::fail::{ViewAt, ViewFail};
-use crate::table::{Table, table_of};
+use crate::table::Table;
 use crate::view::View;
-use spoc_base::{RouterId, TagId, ZoneId};
-use std::alloc::Global;
-use subnet_tree::TreeFail;
+use spoc_base::{RouterId, ZoneId};
 use topology::Topo;
-use zone_graph::{TagTable, ZoneGraph};
 
 /// The views of all zones and routers. Those with equal tags share one table.
 #[derive(Drop)]
 pub struct Views<'a> {
-    topo: Topo<'a>,
-    tables: Vec<Table>,
-    places: Vec<usize>,
-    zones: usize,
+    pub(crate) topo: Topo<'a>,
+    pub(crate) tables: Vec<Table>,
+    pub(crate) places: Vec<usize>,
+    pub(crate) zones: usize,
     ghost kept: { AreTables (policy_of topo) tables.items places.items } by { Prim.hlevel props },
 }
 

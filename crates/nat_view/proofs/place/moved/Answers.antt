@@ -1,4 +1,4 @@
-use Rattle.std.proofs.Common.{◌+◌, ◌-◌, arith}
+use Rattle.std.proofs.Common.{arith}
 use Rattle.spoc_base.proofs.Blocks.{block_fits}
 use Rattle.spoc_base.specs.Shown.{cidr_of}
 use Rattle.nat_view.proofs.Moving.{moved_fits}

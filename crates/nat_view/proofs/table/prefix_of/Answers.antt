@@ -1,11 +1,6 @@
-use Rattle.std.proofs.Common.{◌∙◌, ap, sym, map, eqb-true}
-use Rattle.std.specs.Prelude.{◌==◌, Some}
-use Rattle.std.specs.List.{list_all}
+use Rattle.std.proofs.Common.{ap, map}
 use Rattle.spoc_base.specs.Shown.{cidr_of}
-use Rattle.policy_model.specs.Lists.{has}
-use Rattle.policy_model.specs.Policy.{net_of}
-use Rattle.topology.specs.View.{policy_of, sources_of}
-use Rattle.topology.specs.Sound.{keeps_length}
+use Rattle.topology.specs.View.{policy_of}
 use Rattle.nat_view.specs.Shown.{numbers_of, nat_seen}
 use Rattle.nat_view.proofs.Finding.{kept_length}
 use Rattle.nat_view.proofs.table.prefix_of.Goals as goal

@@ -1,4 +1,4 @@
-use Rattle.std.proofs.Common.{◌∙◌, ◌+◌, ap, sym, map, subst, ◌++◌, ◌∷◌, []}
+use Rattle.std.proofs.Common.{◌∙◌, ◌+◌, ap, sym, map, subst}
 use Rattle.std.proofs.lemmas.List.{map_push}
 use Rattle.spoc_base.specs.Shown.{cidr_of}
 use Rattle.topology.specs.View.{policy_of}

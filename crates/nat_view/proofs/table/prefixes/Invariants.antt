@@ -1,5 +1,4 @@
-use Rattle.std.proofs.Common.{◌≡◌, ℕ, ◌<◌, length, map}
-use Rattle.std.specs.Prelude.{Some}
+use Rattle.std.proofs.Common.{map}
 use Rattle.spoc_base.specs.Shown.{cidr_of}
 use Rattle.topology.specs.View.{policy_of}
 use Rattle.nat_view.specs.Tables.{ArePrefixesBelow}

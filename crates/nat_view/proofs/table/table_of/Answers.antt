@@ -4,7 +4,7 @@ use Rattle.topology.specs.View.{policy_of}
 use Rattle.subnet_tree.specs.Entries.{HaveDistinctNumbers, HaveDistinctPrefixes}
 use Rattle.subnet_tree.specs.Shown.{entry_of}
 use Rattle.nat_view.specs.Shown.{numbers_of}
-use Rattle.nat_view.specs.Tables.{entries_of, IsTable, ArePrefixes}
+use Rattle.nat_view.specs.Tables.{entries_of, ArePrefixes}
 use Rattle.nat_view.proofs.Items.{items_are_distinct, refused}
 use Rattle.nat_view.proofs.table.table_of.Goals as goal
 
