@@ -1,0 +1,4 @@
+pub mod Marks
+pub mod Search
+pub mod Rows
+pub mod Areas
