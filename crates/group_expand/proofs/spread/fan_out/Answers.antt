@@ -18,7 +18,7 @@ visit_by-requires-clause-there c =
 pub visit_by-requires-clause-one_router : goal.visit_by-requires-clause-one_router
 visit_by-requires-clause-one_router c =
     let p = policy_of c.args.topo in
-    ap (λ i. i.router) c.iface.ensures
+    ap (λ i. i.router) c.iface.ensures.seen
     ∙ sym (eqb-true (router_at p _) c.iface.result.router.0
     (in_row (λ i. router_at p i == c.iface.result.router.0) (length p.ifaces) c.ifs_of-row.result.now c.ifs_of-row.ensures c.loop-j.j-index c.loop-j-test.true).1)
 
@@ -38,6 +38,6 @@ returns-clause-seen c =
     let s = site_of c.args.topo c.args.graph.now in
     let row = c.ifs_of-row.result.now in
     let long = length-map row (λ i. i.0) in
-    let its : router_at s.policy c.args.i.0 ≡ c.iface.result.router.0 = ap (λ i. i.router) c.iface.ensures in
+    let its : router_at s.policy c.args.i.0 ≡ c.iface.result.router.0 = ap (λ i. i.router) c.iface.ensures.seen in
     λ j hj o same. row_whole s c.args.marks.now c.loop-j.seen (iface_numbers row) c.loop-j.j-index c.iface.result.router.0 c.ifs_of-row.ensures (omega (arith, long, c.loop-j-test.false))
         c.loop-j.invariant.1 j hj o (same ∙ its)

@@ -8,7 +8,7 @@ pub returns : goal.returns
 returns c =
     let s = site_of c.args.topo c.args.graph.now in
     let r = c.iface.result.router.0 in
-    let its : router_at s.policy c.args.i.0 ≡ r = ap (λ i. i.router) c.iface.ensures in
+    let its : router_at s.policy c.args.i.0 ≡ r = ap (λ i. i.router) c.iface.ensures.seen in
     let there = subst (λ (x : ℕ). x < length s.policy.routers) its (c.args.topo.kept.sound.numbered.placed c.args.i.0 c.requires.there).1 in
     record {
       goes = passed_on s c.args.marks.now c.args.i.0 r c.args.seen.now c.args.passed.now c.fan_out.new.seen (numbers_of c.args.left.now.items) (numbers_of c.fan_out.new.left.items)
