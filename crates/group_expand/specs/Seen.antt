@@ -1,5 +1,5 @@
 -- What clauses see of a policy in memory with its zones.
-use Rattle.std.specs.Prelude.{ℕ, List, map}
+use Rattle.std.specs.Prelude.{ℕ, List, map, Vec}
 use Rattle.spoc_base.specs.declared.ids.IfId.{IfId}
 use Rattle.spoc_base.specs.declared.ids.ZoneId.{ZoneId}
 use Rattle.policy_model.specs.Zones.{Site}
@@ -18,3 +18,7 @@ numbers_of zones = map (λ z. z.0) zones
 -- interfaces, by number
 abbrev pub iface_numbers : List IfId → List ℕ
 iface_numbers ifaces = map (λ i. i.0) ifaces
+
+-- rows of zones, by number
+abbrev pub rows_of : {A : Type 0} → List (Vec ZoneId A) → List (List ℕ)
+rows_of rows = map (λ row. numbers_of row.items) rows

@@ -1,4 +1,4 @@
-ghost use Rattle.std.specs.Prelude.{◌≡◌, ◌<◌, ℕ, false, length, IfOk, IfErr, IfSome, IfNone, slice_index};
+ghost use Rattle.std.specs.Prelude.{◌≡◌, ◌<◌, ◌≤◌, ℕ, false, filter, length, IfOk, IfErr, IfSome, IfNone, slice_index};
 ghost use Rattle.std.specs.List.{All};
 ghost use Rattle.policy_model.specs.Zones.{zone_at};
 ghost use Rattle.policy_model.specs.Objects.{start_of};
@@ -6,7 +6,9 @@ ghost use Rattle.topology.specs.View.{policy_of};
 ghost use Rattle.zone_graph.specs.Grouped.{IsGraphOf};
 ghost use Rattle.group_expand.specs.Seen.{site_of, numbers_of, iface_numbers};
 ghost use Rattle.group_expand.specs.Areas.{IsFirst, IsAreaRow, FailsArea, is_outside, is_cut_off, IsThere};
-ghost use Rattle.group_expand.specs.Spread.{AreMarksOf};
+ghost use Rattle.group_expand.specs.Spread.{AreMarksOf, AreSpread, marked};
+ghost use Rattle.group_expand.specs.declared.area.AreaFail.TheVariants.{Memory};
+ghost use Rattle.policy_model.specs.Lists.{numbers_below};
 ghost use Rattle.policy_model.specs.Policy.{area_of};
 
 use crate::area::AreaFail;
@@ -75,6 +77,44 @@ fn first_cut(topo: Topo<'_>, graph: &ZoneGraph, marks: &[bool], seen: &[bool]) -
     None
 }
 
+// The marked zones, ascending, unless one of the marked interfaces isn't in one of them.
+fn uncut_zones(
+    alloc: Global,
+    topo: Topo<'_>,
+    graph: &ZoneGraph,
+    k: u32,
+    start: ZoneId,
+    marks: &[bool],
+    seen: &[bool],
+) -> Result<Vec<ZoneId>, AreaFail>
+    requires graph { IsGraphOf (policy_of topo) graph.now }
+    requires there { k < length (policy_of topo).areas }
+    requires start { start.0 ≡ start_of (site_of topo graph.now) k }
+    requires marks { AreMarksOf marks.now (length (policy_of topo).ifaces) (area_of (policy_of topo) k).borders }
+    requires seen { AreSpread (site_of topo graph.now) marks.now start.0 seen.now (length graph.now.nets) }
+    ensures zones { IfOk result (λ zones. IsAreaRow (site_of topo.entry graph.now) k (numbers_of zones.items)) }
+    ensures whole { IfOk result (λ zones. (i : ℕ) → is_cut_off (site_of topo.entry graph.now) k (numbers_of zones.items) i ≡ false) }
+    ensures split { IfErr result (λ fail. FailsArea (site_of topo.entry graph.now) k fail) }
+    ensures border { IfErr result (λ fail. IsThere (policy_of topo.entry) fail) }
+{
+    match first_cut(topo, graph, marks, seen) {
+        Some(i) => Err(AreaFail::Split(i)),
+        None => Ok(listed(alloc, seen, graph.count())?),
+    }
+}
+
+// The marked zones, ascending. There are at most `most` zones.
+fn listed(alloc: Global, seen: &[bool], most: u32) -> Result<Vec<ZoneId>, AreaFail>
+    requires { length seen.now ≤ most }
+    ensures zones { IfOk result (λ zones. numbers_of zones.items ≡ filter (marked seen.now) (numbers_below (length seen.now))) }
+    ensures memory { IfErr result (λ fail. fail ≡ Memory) }
+{
+    match marked_zones(alloc, seen, most) {
+        Ok(zones) => Ok(zones),
+        Err(_) => Err(AreaFail::Memory),
+    }
+}
+
 /// The zones of an area, ascending, unless one of its borders isn't in it.
 pub(crate) fn zones_of_area(
     alloc: Global,
@@ -96,13 +136,7 @@ pub(crate) fn zones_of_area(
     let Ok(seen) = spread(alloc, topo, graph, &marks, start) else {
         return Err(AreaFail::Memory);
     };
-    if let Some(i) = first_cut(topo, graph, &marks, &seen) {
-        return Err(AreaFail::Split(i));
-    }
-    match marked_zones(alloc, &seen, graph.count()) {
-        Ok(zones) => Ok(zones),
-        Err(_) => Err(AreaFail::Memory),
-    }
+    uncut_zones(alloc, topo, graph, k, start, &marks, &seen)
 }
 
 // A mark for each border of an area.

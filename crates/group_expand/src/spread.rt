@@ -142,8 +142,8 @@ fn leave_zone(
     Ok(())
 }
 
-// So many, none with a mark.
-fn unmarked(alloc: Global, count: usize) -> Result<Vec<bool>, NoMemory>
+/// So many, none with a mark.
+pub(crate) fn unmarked(alloc: Global, count: usize) -> Result<Vec<bool>, NoMemory>
     ensures { IfOk result (λ marks. AreUnmarked marks.items count) }
 {
     let mut marks = Vec::new(alloc);

@@ -1,7 +1,7 @@
 use Rattle.std.proofs.Common.{sym, subst, ap, List, ℕ, length}
 use Rattle.topology.specs.View.{policy_of}
 use Rattle.group_expand.specs.Spread.{AreMarksOf}
-use Rattle.group_expand.proofs.Areas.{borders_there}
+use Rattle.group_expand.proofs.AreaRows.{borders_there}
 use Rattle.group_expand.proofs.border.border_marks.Goals as goal
 
 pub mark-requires : goal.mark-requires

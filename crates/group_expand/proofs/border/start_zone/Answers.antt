@@ -5,7 +5,7 @@ use Rattle.std.proofs.Math.ListN.{length-map}
 use Rattle.topology.specs.View.{policy_of}
 use Rattle.spoc_base.specs.declared.ids.NetId.{NetId}
 use Rattle.group_expand.specs.Seen.{site_of, iface_numbers}
-use Rattle.group_expand.proofs.Areas.{anchor_there, borders_there, border_first, starts_at_anchor, starts_at_border}
+use Rattle.group_expand.proofs.AreaRows.{anchor_there, borders_there, border_first, starts_at_anchor, starts_at_border}
 use Rattle.group_expand.proofs.border.start_zone.Goals as goal
 
 pub zone_of-requires : goal.zone_of-requires
