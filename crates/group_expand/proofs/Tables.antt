@@ -8,13 +8,15 @@ use Rattle.policy_model.specs.Zones.{Site}
 use Rattle.policy_model.specs.Objects.{Object, group_objects, objects_by, objects_of}
 use Rattle.topology.specs.Sound.{IsSound, is_sound_expr}
 use Rattle.zone_graph.specs.Grouped.{HasGroups, row_items}
-use Rattle.group_expand.specs.Sets.{Tables, AreTables, AreHosts, host_rows, hosts_below, group_set, are_there}
+use Rattle.group_expand.specs.Sets.{Tables, AreTables, AreHosts, host_rows, hosts_below, group_set, are_there, rows_seen, object_seen}
+use Rattle.group_expand.specs.declared.object.Object as code
 use Rattle.group_expand.specs.Groups.{AreFilled}
 use Rattle.group_expand.specs.Spread.{marked, unmarked_count}
 use Rattle.group_expand.proofs.RowFilling.{as_numbers}
 use Rattle.group_expand.proofs.GroupOrder.{same_objects, named_there, groups_there}
 use Rattle.std.proofs.lemmas.Bool.{cases_lt}
-use Rattle.std.proofs.Common.{⊎_elim, zero, suc, slice_index_or}
+use Rattle.std.proofs.Common.{⊎_elim, zero, suc, slice_index_or, take, drop, ◌++◌, append-nil}
+use Rattle.group_expand.proofs.Loops.{nothing_left}
 
 pub hosts_found : {A : Type 0} (p : Policy) (rows : List (Vec HostId A)) → length rows ≡ length p.nets → HasGroups (λ h. h.0) (row_items rows) (hosts_below p (length p.hosts)) → AreHosts p (host_rows rows)
 hosts_found {A} p rows long has =
@@ -46,3 +48,18 @@ pub by_tables : (s : Site) (areas : List (List ℕ)) (tables : Tables) (user : L
     objects_by s areas (group_set tables.groups) user e ≡ objects_of s areas user e
 by_tables s areas tables user e are sound =
     same_objects s areas (group_set tables.groups) (group_objects s areas (length s.policy.groups)) user e (λ g named. are.its g (named_there s.policy e g sound named))
+
+pub rows_long : {A : Type 0} (rows : List (Vec code.Object A)) → length rows ≡ length (rows_seen rows)
+rows_long {A} rows = sym (length-map rows (λ (r : Vec code.Object A). map object_seen r.items))
+
+-- a filled part of a Vec that has all its items is these
+pub taken_back : {A : Type 0} (new old : List A) (n : ℕ) → length new ≡ length old → n ≡ length old → take n (new ++ drop (length new) old) ≡ new
+taken_back {A} new old n e f =
+    ap (λ (l : List A). take n (new ++ l)) (nothing_left old (length new) (omega (arith, e)))
+    ∙ (ap (take n) (append-nil new) ∙ all_taken new n (omega (arith, e, f)))
+  where
+    all_taken : (xs : List A) (n : ℕ) → length xs ≤ n → take n xs ≡ xs
+    all_taken [] zero h = refl
+    all_taken [] (suc n) h = refl
+    all_taken (x ∷ xs) zero h = absurd (omega (arith, h))
+    all_taken (x ∷ xs) (suc n) h = ap (λ (l : List A). x ∷ l) (all_taken xs n (omega (arith, h)))

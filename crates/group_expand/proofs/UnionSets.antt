@@ -1,5 +1,6 @@
 -- The objects of a union, part by part.
-use Rattle.std.proofs.Common.{◌≡◌, ◌∙◌, refl, sym, ap, subst, Bool, true, false, cond, not, ◌&&◌, ℕ, List, [], ◌∷◌, ◌++◌, map}
+use Rattle.std.proofs.Common.{◌≡◌, ◌∙◌, ◌+◌, ◌<◌, drop, length, slice_index_or, refl, sym, ap, subst, Bool, true, false, cond, not, ◌&&◌, ℕ, List, [], ◌∷◌, ◌++◌, map}
+use Rattle.group_expand.proofs.Loops.{left_at}
 use Rattle.std.specs.Prelude.{filter}
 use Rattle.std.specs.List.{list_all}
 use Rattle.std.proofs.lemmas.Bool.{and_parts, and_from}
@@ -95,3 +96,25 @@ part_begins scope part first e =
 pub part_goes_on : (scope : Scope) (old new others : List Object) (f : Further) (fs : List Further) → new ≡ narrowed_by f.without old others → others ≡ objects_in scope (term_of f.term) →
     left_by scope new fs ≡ left_by scope old (f ∷ fs)
 part_goes_on scope old new others f fs e g = ap (λ (l : List Object). left_by scope l fs) (e ∙ ap (narrowed_by f.without old) g)
+
+-- ---- the items of loops
+
+pub first_sound : (p : Policy) (part : Inter) → is_sound_expr p true true (part_of part) ≡ true → is_sound_expr p true true (term_of (out-Inter part).first) ≡ true
+first_sound p part h =
+    (and_parts (is_sound_expr p true true (term_of (out-Inter part).first)) (sound_terms p (out-Inter part).rest.now) (sym (part_sound p part) ∙ h)).0
+
+pub next_term_sound : (p : Policy) (fs : List Further) (k : ℕ) (f : Further) → k < length fs → f ≡ slice_index_or fs k f → sound_terms p (drop k fs) ≡ true → is_sound_expr p true true (term_of f.term) ≡ true
+next_term_sound p fs k f h is all =
+    ap (λ (x : Further). is_sound_expr p true true (term_of x.term)) is
+    ∙ (and_parts (is_sound_expr p true true (term_of (slice_index_or fs k f).term)) (sound_terms p (drop (k + 1) fs)) (ap (sound_terms p) (sym (left_at fs k f h)) ∙ all)).0
+
+pub parts_left_sound : (p : Policy) (parts : List Inter) (k : ℕ) (part : Inter) → k < length parts → sound_parts p (drop k parts) ≡ true → sound_parts p (drop (k + 1) parts) ≡ true
+parts_left_sound p parts k part h all =
+    (and_parts (is_sound_expr p true true (part_of (slice_index_or parts k part))) (sound_parts p (drop (k + 1) parts)) (ap (sound_parts p) (sym (left_at parts k part h)) ∙ all)).1
+
+pub parts_on : (scope : Scope) (old new objects all : List Object) (parts : List Inter) (k : ℕ) (part : Inter) → k < length parts → part ≡ slice_index_or parts k part → new ≡ with_objects old objects →
+    objects ≡ objects_in scope (part_of part) → with_objects old (objects_to_come scope (drop k parts)) ≡ all → with_objects new (objects_to_come scope (drop (k + 1) parts)) ≡ all
+parts_on scope old new objects all parts k part h is e f so_far =
+    union_goes_on scope old new objects part (drop (k + 1) parts) e f
+    ∙ (ap (λ (x : Inter). with_objects old (objects_to_come scope (x ∷ drop (k + 1) parts))) is
+    ∙ (ap (λ (l : List Inter). with_objects old (objects_to_come scope l)) (sym (left_at parts k part h)) ∙ so_far))

@@ -40,8 +40,8 @@ pub fn objects(
         topo,
         graph,
         areas,
-        hosts: &sets.hosts,
-        groups: &sets.groups,
+        hosts: sets.hosts(),
+        groups: sets.groups(),
         user,
     };
     of_union(&scope, set)

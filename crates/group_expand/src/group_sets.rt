@@ -6,7 +6,7 @@ ghost use Rattle.zone_graph.specs.Grouped.{IsGraphOf};
 ghost use Rattle.group_expand.specs.Groups.{AreFilled, HaveChains, waits};
 ghost use Rattle.group_expand.specs.Scope.{IsBase, site_at};
 ghost use Rattle.group_expand.specs.Seen.{site_of};
-ghost use Rattle.group_expand.specs.Sets.{AreTables, are_there, group_set, object_seen, rows_seen};
+ghost use Rattle.group_expand.specs.Sets.{AreTables, are_there, group_set, host_rows, object_seen, rows_seen};
 ghost use Rattle.group_expand.specs.Spread.{AreUnmarked, Grows, marked};
 
 use crate::area::Areas;
@@ -25,8 +25,8 @@ use zone_graph::ZoneGraph;
 /// The hosts of each network, and the set of each group.
 #[derive(Drop)]
 pub struct GroupSets {
-    pub(crate) hosts: Vec<Vec<HostId>>,
-    pub(crate) groups: Vec<Vec<Object>>,
+    hosts: Vec<Vec<HostId>>,
+    groups: Vec<Vec<Object>>,
 }
 
 impl Model for GroupSets {
@@ -35,6 +35,22 @@ impl Model for GroupSets {
     ghost Value = { Tables };
 
     ghost view = { λ t. record { hosts = host_rows t.hosts.items; groups = rows_seen t.groups.items } };
+}
+
+impl GroupSets {
+    /// The hosts of each network.
+    pub(crate) fn hosts(&self) -> &[Vec<HostId>]
+        ensures { host_rows result.now ≡ self.now.hosts }
+    {
+        &self.hosts
+    }
+
+    /// The set of each group.
+    pub(crate) fn groups(&self) -> &[Vec<Object>]
+        ensures { rows_seen result.now ≡ self.now.groups }
+    {
+        &self.groups
+    }
 }
 
 // The set of a group, by the sets of the groups that it names.
