@@ -24,7 +24,7 @@ use Rattle.compile_core.specs.Reading.{read_narrow}
 use Rattle.compile_core.specs.Entries.{Numbered, numbered_in, lines_at, lists_from}
 use Rattle.compile_core.specs.DeviceText.{device_text}
 use Rattle.compile_core.specs.Outcome.{Written, written, device_of, outcome_of, outcome_of_tokens, outcome_of_narrow, outcome_of_files}
-use Rattle.policy_files.specs.Fault.{fault_of_texts}
+use Rattle.policy_source.specs.Faults.{fault_of_sources}
 use Rattle.compile_core.proofs.Unrefused.{without_fault}
 use Rattle.compile_core.specs.Accepted.{iface_in, policy_in, site_in, views_in, meaning_in, config_in, narrow_from, narrow_in, IsExactFile, AreExact}
 use Rattle.compile_core.proofs.Empty.{empty_is_exact}
@@ -147,4 +147,4 @@ files_exact [] w h = record { exact = empty_is_exact; files = sym (ap (λ (r : R
 files_exact (s ∷ rest) w h = file_exact s rest w h
 
 pub all_exact : (sources : List (List ℕ × List ℕ)) (w : Written) → outcome_of sources ≡ Ok w → AreExact sources w
-all_exact sources w h = files_exact sources w (without_fault (fault_of_texts (map (λ s. s.1) sources)) (outcome_of_files sources) w h)
+all_exact sources w h = files_exact sources w (without_fault (fault_of_sources (map (λ s. s.1) sources)) (outcome_of_files sources) w h)

@@ -9,7 +9,7 @@ use Rattle.compile_core.specs.Narrow.{Narrow}
 use Rattle.compile_core.specs.Reading.{read_narrow}
 use Rattle.compile_core.specs.Consistent.{is_inconsistent}
 use Rattle.compile_core.specs.Outcome.{Written, written, nothing_written, outcome_of_tokens, outcome_of_narrow, outcome_of_files}
-use Rattle.policy_files.specs.Fault.{fault_of_texts}
+use Rattle.policy_source.specs.Faults.{fault_of_sources}
 use Rattle.compile_core.proofs.Unrefused.{without_fault}
 use Rattle.compile_core.specs.FileNames.{FilesHaveDistinctNames, file_names}
 
@@ -42,4 +42,4 @@ distinct_in_files (s ∷ []) w e = tokens_or (tokens_of s.1) w e
 distinct_in_files (s ∷ r ∷ sources) w e = cc
 
 pub distinct_names : FilesHaveDistinctNames
-distinct_names sources w e = distinct_in_files sources w (without_fault (fault_of_texts (map (λ s. s.1) sources)) (outcome_of_files sources) w e)
+distinct_names sources w e = distinct_in_files sources w (without_fault (fault_of_sources (map (λ s. s.1) sources)) (outcome_of_files sources) w e)

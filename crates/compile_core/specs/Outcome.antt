@@ -4,7 +4,7 @@ use Rattle.std.specs.Fmt.{decimal}
 use Rattle.spoc_base.specs.declared.fault.Fault.{Fault}
 use Rattle.spoc_base.specs.declared.fault.Fault.TheVariants.{Form, Names}
 use Rattle.spoc_lexer.specs.Tokens.{Tok, tokens_of}
-use Rattle.policy_files.specs.Fault.{fault_of_texts}
+use Rattle.policy_source.specs.Faults.{fault_of_sources}
 use Rattle.compile_core.specs.Narrow.{Network, Interface, Service, Narrow}
 use Rattle.compile_core.specs.Reading.{read_narrow}
 use Rattle.compile_core.specs.Consistent.{number_in, is_inconsistent}
@@ -82,9 +82,9 @@ unless_fault (Some fault) outcome = Err fault
 abbrev pub source_texts : List (List ℕ × List ℕ) → List (List ℕ)
 source_texts sources = map (λ s. s.1) sources
 
--- The files and the summary of a policy, or its fault: that of the texts comes before all others.
+-- The files and the summary of a policy, or its fault: that of the texts and of what they declare comes before all others.
 abbrev pub outcome_of : List (List ℕ × List ℕ) → Result Written Fault
-outcome_of sources = unless_fault (fault_of_texts (source_texts sources)) (outcome_of_files sources)
+outcome_of sources = unless_fault (fault_of_sources (source_texts sources)) (outcome_of_files sources)
 
 abbrev pub count_line : List ℕ → ℕ → List ℕ
 count_line word n = word ++ decimal n ++ codes "\n"

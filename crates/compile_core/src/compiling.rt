@@ -6,7 +6,7 @@ ghost use Rattle.compile_core.specs.Entries.{numbered_in, lists_from};
 ghost use Rattle.compile_core.specs.DeviceText.{device_text};
 ghost use Rattle.compile_core.specs.Seen.{narrow_of, numbered_of, service_of, interface_of, network_of};
 ghost use Rattle.compile_core.specs.Outcome.{outcome_of, outcome_of_files, source_texts, outcome_of_text, outcome_of_tokens, written, nothing_written, counts_in, is_local, summary_text, device_of};
-ghost use Rattle.policy_files.specs.Fault.{fault_of_texts};
+ghost use Rattle.policy_source.specs.Faults.{fault_of_sources};
 ghost use Rattle.compile_core.specs.Answer.{pair_of, written_of, counts_of, IsRefusalOf};
 
 use crate::consistent::{Tables, resolve};
@@ -15,7 +15,7 @@ use crate::lists::{put_bindings, put_lists};
 use crate::reading::{InterfaceDecl, NarrowFile, NetworkDecl, ServiceDecl, narrow};
 use crate::text::{put, put_count};
 use bumpalo::Bump;
-use policy_files::read_files;
+use policy_source::read_policy;
 use spoc_base::{Fault, NoMemory, Refusal, Row, Source, Text};
 use spoc_lexer::{LexFail, tokens};
 use std::alloc::Global;
@@ -182,14 +182,14 @@ fn compile_files(alloc: Global, sources: &[Source]) -> Result<Compiled, Refusal>
     }
 }
 
-// Whether the texts of sources are in the policy language.
+// Whether the texts of sources are in the policy language, and what they declare has no fault.
 fn check_texts(alloc: Global, sources: &[Source]) -> Result<(), Refusal>
     requires { All (λ s. length s.text ≤ 4194304) sources.now }
-    ensures ok { OnOk result (fault_of_texts (source_texts (map pair_of sources.now)) ≡ None) }
-    ensures refused { IfErr result (IsRefusalOf (λ fault. fault_of_texts (source_texts (map pair_of sources.now)) ≡ Some fault)) }
+    ensures ok { OnOk result (fault_of_sources (source_texts (map pair_of sources.now)) ≡ None) }
+    ensures refused { IfErr result (IsRefusalOf (λ fault. fault_of_sources (source_texts (map pair_of sources.now)) ≡ Some fault)) }
 {
     let arena = Bump::new(alloc);
-    match read_files(alloc, &arena, sources) {
+    match read_policy(alloc, &arena, sources) {
         Ok(_) => Ok(()),
         Err(refusal) => Err(refusal),
     }
@@ -199,7 +199,9 @@ fn check_texts(alloc: Global, sources: &[Source]) -> Result<(), Refusal>
 /// files and a summary of zeros.
 ///
 /// A fault of the texts comes first: a byte at which no token begins, a word that is left out, a
-/// bracket that opens a seventeenth level, or what is no declaration. `Form` comes exactly where
+/// bracket that opens a seventeenth level, or what is no declaration. Then comes one of the
+/// declarations: a name that is declared twice, a name that is used and isn't declared, a group that
+/// reaches itself, what must not stand in a declaration, a limit that is passed. `Form` comes exactly where
 /// there is none of these, and more than one source, or the one isn't of the narrow form: networks,
 /// one managed router that runs IOS, and services by TCP from one network to another. `Names` comes
 /// exactly where it is, but its names, addresses and services don't fit together.

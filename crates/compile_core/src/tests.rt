@@ -73,7 +73,7 @@ fn faults(rt: HostRuntime) -> Result<(), Fail> {
     assert!(rt;
         matches!(
             with_service(rt.alloc(), unknown),
-            Err(Refusal::Policy(Fault::Names))
+            Err(Refusal::Policy(Fault::Unknown { .. }))
         )
     );
     Ok(())

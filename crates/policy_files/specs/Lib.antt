@@ -1,3 +1,4 @@
+pub mod OfTexts
 pub mod Fault
 pub mod Rank
 pub mod Seen

@@ -6,9 +6,15 @@ ghost use Rattle.token_checks.specs.Places.{toks_of, IsFirst, NonePasses};
 ghost use Rattle.token_checks.specs.LeftOut.{is_left_out_at};
 ghost use Rattle.token_checks.specs.Nesting.{is_too_deep_at};
 ghost use Rattle.spoc_parser.specs.Reach.{AreInReach};
-ghost use Rattle.policy_files.specs.Fault.{left_out_fault, deep_fault, first_token};
+ghost use Rattle.policy_files.specs.Fault.{left_out_fault, deep_fault, first_token, behind_run};
 ghost use Rattle.policy_files.specs.Rank.{text_fault, toks_fault};
 ghost use Rattle.policy_files.specs.Seen.{IsRefusalOf};
+ghost use Rattle.policy_files.specs.OfTexts.{decls_of_text};
+ghost use Rattle.spoc_parser.specs.Files.{run_of, most_levels};
+ghost use Rattle.spoc_parser.specs.SeenFile.{FailsAt};
+ghost use Rattle.spoc_ast.specs.Seen.{file_seen};
+ghost use Rattle.syntax_laws.specs.Said.{decls_said};
+ghost use Rattle.policy_files.specs.OfTexts.{items_read};
 
 use bumpalo::Bump;
 use spoc_ast::File;
@@ -16,6 +22,7 @@ use spoc_base::{Fault, Refusal, Span};
 use spoc_lexer::{LexFail, Token, tokens};
 use spoc_parser::{ParseFail, parse};
 use std::alloc::Global;
+use syntax_laws::files::trees_of_a_text;
 use token_checks::{left_out, too_deep};
 
 fn left_out_at(file: u32, token: &Token<'_>) -> Fault
@@ -106,10 +113,25 @@ fn tokens_of_file<'a>(alloc: Global, file: u32, text: &'a [u8]) -> Result<Vec<To
     Ok(found)
 }
 
+// The trees of the declarations that tokens spell.
+fn trees<'a>(arena: &'a Bump, file: u32, tokens: &[Token<'a>]) -> Result<File<'a>, ParseFail>
+    requires reach { AreInReach tokens.now }
+    ensures said { IfOk result (λ tree. file_seen tree ≡ decls_said file most_levels (items_read (run_of most_levels (toks_of tokens.now)))) }
+    ensures ok { OnOk result (behind_run (run_of most_levels (toks_of tokens.now)) ≡ None) }
+    ensures err { IfErr result (λ e. FailsAt e (run_of most_levels (toks_of tokens.now))) }
+{
+    trees_of_a_text();
+    match parse(arena, file, tokens) {
+        Ok(tree) => Ok(tree),
+        Err(fail) => Err(fail),
+    }
+}
+
 // The declarations that tokens spell.
 fn read_tokens<'a>(arena: &'a Bump, file: u32, tokens: &[Token<'a>]) -> Result<File<'a>, Refusal>
     requires few { length tokens.now < 2 ^ 32 }
     requires reach { AreInReach tokens.now }
+    ensures said { IfOk result (λ tree. file_seen tree ≡ decls_said file most_levels (items_read (run_of most_levels (toks_of tokens.now)))) }
     ensures ok { OnOk result (toks_fault file (toks_of tokens.now) ≡ None) }
     ensures refused { IfErr result (IsRefusalOf (λ fault. toks_fault file (toks_of tokens.now) ≡ Some fault)) }
 {
@@ -119,7 +141,7 @@ fn read_tokens<'a>(arena: &'a Bump, file: u32, tokens: &[Token<'a>]) -> Result<F
     if let Some(fault) = deep(file, tokens) {
         return Err(Refusal::Policy(fault));
     }
-    match parse(arena, file, tokens) {
+    match trees(arena, file, tokens) {
         Ok(tree) => Ok(tree),
         Err(ParseFail::Syntax(offset)) => Err(Refusal::Policy(Fault::Syntax { file, offset })),
         Err(ParseFail::Memory) => Err(Refusal::Memory),
@@ -135,6 +157,7 @@ pub fn read_file<'a>(
     text: &'a [u8],
 ) -> Result<File<'a>, Refusal>
     requires { length text.now ≤ 4194304 }
+    ensures said { IfOk result (λ tree. file_seen tree ≡ decls_of_text file text.now) }
     ensures ok { OnOk result (text_fault file text.now ≡ None) }
     ensures refused { IfErr result (IsRefusalOf (λ fault. text_fault file text.now ≡ Some fault)) }
 {

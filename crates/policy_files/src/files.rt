@@ -1,8 +1,9 @@
-ghost use Rattle.std.specs.Prelude.{◌≡◌, ◌≤◌, length, drop, Some, None, IfOk, IfErr, OnOk};
+ghost use Rattle.std.specs.Prelude.{◌≡◌, ◌≤◌, ◌++◌, length, drop, Some, None, IfOk, IfErr, OnOk};
 ghost use Rattle.std.specs.List.{All};
 ghost use Rattle.policy_files.specs.Fault.{fault_of_texts, faults_from};
 ghost use Rattle.policy_files.specs.Rank.{rank, earlier, earlier_of, text_fault};
-ghost use Rattle.policy_files.specs.Seen.{IsRefusalOf, texts_of};
+ghost use Rattle.policy_files.specs.Seen.{IsRefusalOf, texts_of, decls_of};
+ghost use Rattle.policy_files.specs.OfTexts.{decls_of_text, declared};
 
 use crate::file::read_file;
 use bumpalo::Bump;
@@ -55,7 +56,8 @@ fn read_next<'a>(
     reading: &mut Reading<'a>,
 ) -> Result<(), NoMemory>
     requires { length text.now ≤ 4194304 }
-    ensures { OnOk result (reading.new.fault ≡ earlier reading.old.fault (text_fault file text.now)) }
+    ensures fault { OnOk result (reading.new.fault ≡ earlier reading.old.fault (text_fault file text.now)) }
+    ensures said { OnOk result (reading.new.fault ≡ None → decls_of reading.new.files.items ≡ decls_of reading.old.files.items ++ decls_of_text file text.now) }
 {
     match read_file(alloc, arena, file, text) {
         Ok(tree) => {
@@ -75,7 +77,8 @@ fn read_all<'a>(
     sources: &'a [Source],
 ) -> Result<Reading<'a>, NoMemory>
     requires { All (λ s. length s.text ≤ 4194304) sources.now }
-    ensures { IfOk result (λ reading. reading.fault ≡ fault_of_texts (texts_of sources.now)) }
+    ensures fault { IfOk result (λ reading. reading.fault ≡ fault_of_texts (texts_of sources.now)) }
+    ensures said { IfOk result (λ reading. reading.fault ≡ None → decls_of reading.files.items ≡ declared (texts_of sources.now)) }
 {
     let mut reading = Reading {
         files: Vec::new(alloc),
@@ -97,6 +100,7 @@ fn read_all<'a>(
 }
 
 /// The declarations of each file of a policy, in the order of the sources, each of at most 4 MiB.
+/// They are those that the texts say.
 ///
 /// The fault is that of the texts which counts: the first byte at which no token begins, then the
 /// first word that is left out, then the first bracket that opens a seventeenth level, and then the
@@ -107,6 +111,7 @@ pub fn read_files<'a>(
     sources: &'a [Source],
 ) -> Result<Vec<File<'a>>, Refusal>
     requires { All (λ s. length s.text ≤ 4194304) sources.now }
+    ensures said { IfOk result (λ files. decls_of files.items ≡ declared (texts_of sources.now)) }
     ensures ok { OnOk result (fault_of_texts (texts_of sources.now) ≡ None) }
     ensures refused { IfErr result (IsRefusalOf (λ fault. fault_of_texts (texts_of sources.now) ≡ Some fault)) }
 {

@@ -210,7 +210,57 @@ fn policies_are_compiled_or_refused(rt: HostRuntime) -> Result<(), Fail> {
         text: "fault Names\n",
         device: None,
     };
-    compile_changed(&rt, alloc, "dst = network:n2", "dst = network:n3", &names)?;
+    compile_changed(&rt, alloc, "10.1.2.0/24", "10.1.0.0/16", &names)?;
+    Ok(())
+}
+
+// Compiles the policy with one text in the place of another, and compares the line of the fault.
+fn refuse_changed(
+    rt: &impl Abort,
+    alloc: Global,
+    old: &str,
+    new: &str,
+    line: &str,
+) -> Result<(), NoMemory> {
+    let wanted = Wanted {
+        status: 1,
+        text: line,
+        device: None,
+    };
+    compile_changed(rt, alloc, old, new, &wanted)
+}
+
+#[test]
+fn declarations_with_a_fault_are_refused(rt: HostRuntime) -> Result<(), Fail> {
+    let alloc = rt.alloc();
+    refuse_changed(
+        &rt,
+        alloc,
+        "service:s1",
+        "service:s1 = { user = network:n1; permit src = user; dst = network:n2; prt = ip; }\nservice:s1",
+        "fault Twice service:s1\n",
+    )?;
+    refuse_changed(
+        &rt,
+        alloc,
+        "dst = network:n2",
+        "dst = network:n3",
+        "fault Unknown network:n3\n",
+    )?;
+    refuse_changed(
+        &rt,
+        alloc,
+        "service:s1",
+        "group:g = group:g;\nservice:s1",
+        "fault Circle group:g\n",
+    )?;
+    refuse_changed(
+        &rt,
+        alloc,
+        "10.1.1.0/24",
+        "10.1.1.1/24",
+        "fault Shape S4 network:n1\n",
+    )?;
     Ok(())
 }
 
@@ -298,7 +348,12 @@ fn texts_outside_the_language_are_refused(rt: HostRuntime) -> Result<(), Fail> {
         &POLICY.as_bytes()[..245],
         "fault Syntax p 210\n",
     )?;
-    compare_fault(&rt, alloc, DESCRIBED.as_bytes(), "fault Form\n")?;
+    compare_fault(
+        &rt,
+        alloc,
+        DESCRIBED.as_bytes(),
+        "fault Unknown interface:r.b\n",
+    )?;
     let omitted = Wanted {
         status: 1,
         text: "fault LeftOut a 0 crypto:v\n",

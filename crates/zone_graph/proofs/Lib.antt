@@ -1,3 +1,4 @@
+mod Counted
 mod Filled
 mod Joining
 mod Labelled

@@ -1,0 +1,8 @@
+use Rattle.policy_source.proofs.Sourced.{formed, written}
+use Rattle.policy_source.proofs.laws.declarations_are_formed_and_written.Goals as goal
+
+pub returns-clause-formed : goal.returns-clause-formed
+returns-clause-formed c = λ texts. formed texts
+
+pub returns-clause-written : goal.returns-clause-written
+returns-clause-written c = λ sources. written sources
