@@ -1,5 +1,0 @@
-pub mod EndLists
-pub mod LeastEnds
-pub mod Counts
-pub mod Rules
-pub mod FirstRules

@@ -1,5 +1,0 @@
-pub mod Scope
-pub mod Ends
-pub mod Least
-pub mod Counted
-pub mod Faults
