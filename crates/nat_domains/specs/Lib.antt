@@ -1,0 +1,4 @@
+pub mod Inner
+pub mod Marks
+pub mod Rows
+pub mod Spreading
