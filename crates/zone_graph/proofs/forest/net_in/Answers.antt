@@ -13,4 +13,4 @@ pub returns-clause-below : goal.returns-clause-below
 returns-clause-below c =
     let p = policy_of c.args.topo in
     let there = subst (λ (x : ℕ). x < length p.ifaces) (sym (at_row c.ifs_of.result.now (ifaces_of p c.args.r.0) c.ifs_of.ensures c.args.k)) (in_row p c.args.r.0 c.args.k c.requires.place).0 in
-    subst (λ i. i.net < length p.nets) c.iface.ensures (c.args.topo.kept.sound.numbered.placed _ there).0
+    subst (λ i. i.net < length p.nets) c.iface.ensures.seen (c.args.topo.kept.sound.numbered.placed _ there).0

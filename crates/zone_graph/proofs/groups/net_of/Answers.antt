@@ -4,4 +4,4 @@ use Rattle.zone_graph.proofs.groups.net_of.Goals as goal
 
 pub returns-clause-below : goal.returns-clause-below
 returns-clause-below c =
-    let p = policy_of c.args.topo in subst (λ i. i.net < length p.nets) c.iface.ensures (c.args.topo.kept.sound.numbered.placed c.args.i c.requires).0
+    let p = policy_of c.args.topo in subst (λ i. i.net < length p.nets) c.iface.ensures.seen (c.args.topo.kept.sound.numbered.placed c.args.i c.requires).0
