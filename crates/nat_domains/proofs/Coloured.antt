@@ -125,7 +125,7 @@ module _ (s : Site) (tag : ℕ) where
           number = w.iface;
           there = w.there;
           passes = and_from (not (is_marked binders (router_at s.policy w.iface))) (is_marked active (zone_at s w.iface))
-              (not_so (is_marked binders (router_at s.policy w.iface)) (none_binds w.its w.unbound)) ((force (zone_at s w.iface)).1 w.active);
+              (not_so (is_marked binders (router_at s.policy w.iface)) (none_binds w.iface w.its w.unbound)) ((force (zone_at s w.iface)).1 w.active);
           is = w.its;
         }),
   )
@@ -134,7 +134,7 @@ module _ (s : Site) (tag : ℕ) where
       free j hj bare =
           ⊎_elim (λ t. absurd (false≢true (sym bare ∙ (known.marked (router_at s.policy j)).1 (record { number = j; there = hj; passes = t; is = refl })))) (λ f. f) (cases_Bool (bound j))
 
-      none_binds : {i : ℕ} → router_at s.policy i ≡ r → ((j : ℕ) → j < count → router_at s.policy j ≡ r → bound j ≡ false) → is_marked binders (router_at s.policy i) ≡ false
-      none_binds {i} its unbound =
+      none_binds : (i : ℕ) → router_at s.policy i ≡ r → ((j : ℕ) → j < count → router_at s.policy j ≡ r → bound j ≡ false) → is_marked binders (router_at s.policy i) ≡ false
+      none_binds i its unbound =
           ⊎_elim (λ t. let b = (known.marked (router_at s.policy i)).0 t in absurd (false≢true (sym (unbound b.number b.there (b.is ∙ its)) ∙ b.passes))) (λ f. f)
           (cases_Bool (is_marked binders (router_at s.policy i)))

@@ -63,6 +63,32 @@ count_kept {A} rows new e =
     let number = λ (row : List TagId). map (λ (t : TagId). t.0) row in
     length-map (row_items new) number ∙ (length-map new (λ (r : Vec TagId A). r.items) ∙ (e ∙ (sym (length-map rows (λ (r : Vec TagId A). r.items)) ∙ sym (length-map (row_items rows) number))))
 
+-- The tag was put at the end of each marked row below a number, and the rows from there on are as they were.
+pub record ArePutBelow (tag : ℕ) (marks : List Bool) (rows new : List (List ℕ)) (k : ℕ) : Type 0 where
+  pub put : (j : ℕ) → j < k → slice_index_or new j [] ≡ slice_index_or rows j [] ++ cond (is_marked marks j) (tag ∷ []) []
+  pub rest : (j : ℕ) → k ≤ j → slice_index_or new j [] ≡ slice_index_or rows j []
+
+pub nothing_put : (tag : ℕ) (marks : List Bool) (rows : List (List ℕ)) → ArePutBelow tag marks rows rows 0
+nothing_put tag marks rows = record { put = λ j h. absurd (omega (arith, h)); rest = λ j h. refl }
+
+pub one_put : (tag : ℕ) (marks : List Bool) (rows now new : List (List ℕ)) (k : ℕ) → IsPutIf tag k (is_marked marks k) now new → ArePutBelow tag marks rows now k →
+    ArePutBelow tag marks rows new (k + 1)
+one_put tag marks rows now new k one old =
+    let here = one.here ∙ ap (λ (r : List ℕ). r ++ cond (is_marked marks k) (tag ∷ []) []) (old.rest k (omega arith)) in
+    record {
+      put = λ j h. ⊎_elim (λ e. subst (λ (x : ℕ). slice_index_or new x [] ≡ slice_index_or rows x [] ++ cond (is_marked marks x) (tag ∷ []) []) (sym e) here)
+          (λ ne. one.others j ne ∙ old.put j (omega (arith, h, ne))) (cases_eq j k);
+      rest = λ j h. one.others j (λ e. absurd (omega (arith, h, e))) ∙ old.rest j (omega (arith, h));
+    }
+
+rows_long : {A : Type 0} (rows : List (Vec TagId A)) → length (tag_rows rows) ≡ length rows
+rows_long {A} rows = length-map (row_items rows) (λ (row : List TagId). map (λ (t : TagId). t.0) row) ∙ length-map rows (λ (r : Vec TagId A). r.items)
+
+pub all_put : {A : Type 0} (tag : ℕ) (marks : List Bool) (rows new : List (Vec TagId A)) (k : ℕ) → length new ≡ length rows → length rows ≤ k →
+    ArePutBelow tag marks (tag_rows rows) (tag_rows new) k → HasAdded tag marks (tag_rows rows) (tag_rows new)
+all_put {A} tag marks rows new k same high put =
+    record { each = count_kept rows new same; row = λ j h. put.put j (let w = rows_long rows in omega (arith, h, w, high)) }
+
 -- ---- numbers below a bound
 
 range_last : (a n : ℕ) → range_with_len a (n + 1) ≡ range_with_len a n ++ (a + n) ∷ []

@@ -12,7 +12,7 @@ use Rattle.nat_domains.proofs.colour.bypassed_zones.Goals as goal
 pub loop-i-init : goal.loop-i-init
 loop-i-init c =
     let p = policy_of c.args.topo in
-    (c.in_ok-marks.ensures.each, none_marked (λ i. not (binds (policy_of c.args.topo) i c.args.tag.0) && is_marked c.args.binders.now (router_at (policy_of c.args.topo) i)) (zone_at (site_of c.args.topo c.args.graph.now)) c.in_ok-marks.marks.items c.in_ok-marks.ensures.none)
+    (c.in_ok-marks.ensures.each ∙ c.count.ensures, none_marked (λ i. not (binds (policy_of c.args.topo) i c.args.tag.0) && is_marked c.args.binders.now (router_at (policy_of c.args.topo) i)) (zone_at (site_of c.args.topo c.args.graph.now)) c.in_ok-marks.marks.items c.in_ok-marks.ensures.none)
 
 pub loop-i-preserved : goal.loop-i-preserved
 loop-i-preserved c =
@@ -27,3 +27,8 @@ loop-i-preserved c =
           (omega (arith, c.zone_of_iface-z.ensures.below, c.loop-i.invariant.0)) (c.mark_if.ensures ∙ ap (λ (m : List Bool). with_mark m at c.is_bypass.result) c.deref_mut.ensures.value)
           c.loop-i.invariant.1),
     )
+
+pub returns-clause-marked : goal.returns-clause-marked
+returns-clause-marked c =
+    let e : c.loop-i.i ≡ length (policy_of c.args.topo).ifaces = omega (arith, c.loop-i-test.false, c.loop-i.auto.i-end, c.iface_count-i-end.ensures) in
+    subst (λ (n : ℕ). AreMarkedBy (λ i. not (binds (policy_of c.args.topo) i c.args.tag.0) && is_marked c.args.binders.now (router_at (policy_of c.args.topo) i)) (zone_at (site_of c.args.topo c.args.graph.now)) n c.loop-i.marks.items) e c.loop-i.invariant.1

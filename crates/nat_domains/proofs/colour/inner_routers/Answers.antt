@@ -12,7 +12,7 @@ use Rattle.nat_domains.proofs.colour.inner_routers.Goals as goal
 pub loop-i-init : goal.loop-i-init
 loop-i-init c =
     let p = policy_of c.args.topo in
-    (c.in_ok-marks.ensures.each, none_marked (λ i. not (is_marked c.args.binders.now (router_at (policy_of c.args.topo) i)) && is_marked c.args.active.now (zone_at (site_of c.args.topo c.args.graph.now) i)) (router_at (policy_of c.args.topo)) c.in_ok-marks.marks.items c.in_ok-marks.ensures.none)
+    (c.in_ok-marks.ensures.each ∙ c.router_count.ensures, none_marked (λ i. not (is_marked c.args.binders.now (router_at (policy_of c.args.topo) i)) && is_marked c.args.active.now (zone_at (site_of c.args.topo c.args.graph.now) i)) (router_at (policy_of c.args.topo)) c.in_ok-marks.marks.items c.in_ok-marks.ensures.none)
 
 pub loop-i-preserved : goal.loop-i-preserved
 loop-i-preserved c =
