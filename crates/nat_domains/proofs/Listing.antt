@@ -6,12 +6,12 @@ use Rattle.std.specs.List.Sorted.{IsStrictlyIncreasing}
 use Rattle.std.proofs.lemmas.List.{get_or-set_same, get_or-set_other, length-map, length-set, length-append, get_or-map, map-set, map-append, append-nil, get_or_append_left, get_or_push}
 use Rattle.std.proofs.lemmas.List.Elements.{filter-append}
 use Rattle.std.proofs.lemmas.List.Kept.{IsStrictlyIncreasing-filter}
-use Rattle.std.proofs.lemmas.Bool.{cases_eq, eq-eqb, ne_eqb}
+use Rattle.std.proofs.lemmas.Bool.{cases_eq, eq-eqb, ne_eqb, false≢true}
 use Rattle.spoc_base.specs.declared.ids.TagId.{TagId}
 use Rattle.policy_model.specs.Lists.{has, numbers_below}
 use Rattle.zone_graph.specs.Grouped.{row_items}
 use Rattle.nat_domains.specs.Marks.{is_marked}
-use Rattle.nat_domains.specs.Rows.{tag_rows, IsPutIf, HasAdded, AreListed, AreBare}
+use Rattle.nat_domains.specs.Rows.{tag_rows, IsPutIf, HasAdded, AreListed, AreBare, ListsOneMore}
 use Rattle.nat_domains.proofs.Members.{has_kept, kept_has}
 
 -- ---- rows in memory
@@ -81,7 +81,7 @@ one_put tag marks rows now new k one old =
       rest = λ j h. one.others j (λ e. absurd (omega (arith, h, e))) ∙ old.rest j (omega (arith, h));
     }
 
-rows_long : {A : Type 0} (rows : List (Vec TagId A)) → length (tag_rows rows) ≡ length rows
+pub rows_long : {A : Type 0} (rows : List (Vec TagId A)) → length (tag_rows rows) ≡ length rows
 rows_long {A} rows = length-map (row_items rows) (λ (row : List TagId). map (λ (t : TagId). t.0) row) ∙ length-map rows (λ (r : Vec TagId A). r.items)
 
 pub all_put : {A : Type 0} (tag : ℕ) (marks : List Bool) (rows new : List (Vec TagId A)) (k : ℕ) → length new ≡ length rows → length rows ≤ k →
@@ -153,6 +153,17 @@ one_listed P rows new marks t added marked old =
           ∙ (ap (λ (xs : List ℕ). xs ++ cond (is_marked marks k) (t ∷ []) []) (old.are k (inside k h) ∙ filter_alike (old.test k) (test k) 0 t (λ j low high. sym (before k j (omega (arith, high)))))
           ∙ (ap (λ (b : Bool). filter (test k) (numbers_below t) ++ cond b (t ∷ []) []) (sym (at_last k)) ∙ sym (filter_next (test k) t)));
     }
+
+-- a tag that is put into the marked rows, and one that is put into none
+
+pub lists_more : (P : ℕ → ℕ → Type 0) (tag : ℕ) (marks : List Bool) (rows new : List (List ℕ)) → HasAdded tag marks rows new → ((k : ℕ) → (is_marked marks k ≡ true) ↔ P k tag) →
+    ListsOneMore P tag rows new
+lists_more P tag marks rows new added marked = record { each = added.each; more = λ old. one_listed P rows new marks tag added marked old }
+
+pub lists_none : (P : ℕ → ℕ → Type 0) (tag : ℕ) (rows : List (List ℕ)) → ((k : ℕ) → P k tag → ⊥) → ListsOneMore P tag rows rows
+lists_none P tag rows none =
+    let added : HasAdded tag [] rows rows = record { each = refl; row = λ k h. sym (append-nil (slice_index_or rows k [])) } in
+    lists_more P tag [] rows rows added (λ k. (λ h. absurd (false≢true h), λ w. absurd (none k w)))
 
 module _ (P : ℕ → ℕ → Type 0) (rows : List (List ℕ)) (n : ℕ) (listed : AreListed P rows n) (k : ℕ) (there : k < length rows) where
   pub listed_ascending : IsStrictlyIncreasing (slice_index_or rows k [])

@@ -1,5 +1,5 @@
 -- Rows of tags that grow by one tag at a time.
-use Rattle.std.specs.Prelude.{◌≡◌, ◌≢◌, ℕ, ◌<◌, ◌↔◌, Bool, true, cond, Vec, List, [], ◌∷◌, ◌++◌, length, map, filter, slice_index_or}
+use Rattle.std.specs.Prelude.{◌≡◌, ◌≢◌, ℕ, ◌+◌, ◌<◌, ◌↔◌, Bool, true, cond, Vec, List, [], ◌∷◌, ◌++◌, length, map, filter, slice_index_or}
 use Rattle.spoc_base.specs.declared.ids.TagId.{TagId}
 use Rattle.policy_model.specs.Lists.{numbers_below}
 use Rattle.zone_graph.specs.Grouped.{row_items}
@@ -29,3 +29,8 @@ pub record AreListed (P : ℕ → ℕ → Type 0) (rows : List (List ℕ)) (boun
   pub test : ℕ → ℕ → Bool
   pub decides : (k tag : ℕ) → k < length rows → tag < bound → (test k tag ≡ true) ↔ P k tag
   pub are : (k : ℕ) → k < length rows → slice_index_or rows k [] ≡ filter (test k) (numbers_below bound)
+
+-- One tag more is listed.
+pub record ListsOneMore (P : ℕ → ℕ → Type 0) (tag : ℕ) (rows new : List (List ℕ)) : Type 0 where
+  pub each : length new ≡ length rows
+  pub more : AreListed P rows tag → AreListed P new (tag + 1)

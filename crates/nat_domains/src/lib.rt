@@ -2,7 +2,14 @@
 //! faults of tags that are in force where they must not be.
 #![tactic(auto)]
 
+mod bound;
 mod colour;
+mod find;
 mod look;
+mod naming;
+mod refuse;
 mod rows;
 mod spread;
+mod table;
+
+pub use find::domains;

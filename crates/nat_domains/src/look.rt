@@ -64,3 +64,10 @@ pub(crate) fn tag_count(topo: Topo<'_>) -> u32
 {
     topo.tags().len() as u32
 }
+
+/// How many networks there are.
+pub(crate) fn net_count(topo: Topo<'_>) -> u32
+    ensures { result ≡ length (policy_of topo.entry).nets }
+{
+    topo.nets().len() as u32
+}
