@@ -10,8 +10,10 @@ use Rattle.policy_model.specs.Tags.{Views, AreViews, zone_view}
 use Rattle.policy_model.specs.Faults.{IsConflicting, has_tag, is_translated_inside}
 use Rattle.policy_model.specs.FirstFault.{FaultCase, AreaSplit, NatConflict, NatTwice, NatInside, LimitViews, SamePrefix, HostShadowed, IfaceShadowed, ManagedEnd, LimitPermits, NoPath, HiddenEnd, LimitLines, LimitRoutes, NoHopAddress, AmbiguousHop, HasFault, is_lower, order_of}
 use Rattle.policy_model.specs.Headline.{Meaning, permits_in}
+use Rattle.spoc_base.specs.declared.fault.Refusal.{Refusal}
+use Rattle.spoc_base.specs.declared.fault.Refusal.TheVariants as refusal
 use Rattle.topology.specs.Sound.{IsNumbered}
-use Rattle.topology.specs.First.{IsWithin, IsFirstWithin, TellsFirst, HasNone}
+use Rattle.topology.specs.First.{IsWithin, IsFirstWithin, TellsFirst, HasNone, IsRefusalOf}
 use Rattle.nat_domains.specs.Conflicts.{HasNoConflict}
 use Rattle.nat_domains.specs.Translated.{is_pair, HasNoPair, HasNoTwice, HasNoInside}
 use Rattle.nat_domains.specs.Told.{TellsConflict, TellsTwice, TellsInside}
@@ -51,6 +53,10 @@ by_row C one two three LimitLines w = absurd (omega (arith, w.upper))
 by_row C one two three LimitRoutes w = absurd (omega (arith, w.upper))
 by_row C one two three (NoHopAddress r n i) w = absurd (omega (arith, w.upper))
 by_row C one two three (AmbiguousHop r n a b) w = absurd (omega (arith, w.upper))
+
+pub refusal_weaker : (P Q : Fault → Type 0) → ((f : Fault) → P f → Q f) → (r : Refusal) → IsRefusalOf P r → IsRefusalOf Q r
+refusal_weaker P Q so (refusal.Policy f) h = so f h
+refusal_weaker P Q so refusal.Memory h = tt
 
 -- a meaning at the same zones
 pub at_site : (Q : Meaning → Type 0) (s : Site) → ((w : Views) (areas : List (List ℕ)) → AreViews s w → Q (record { site = s; views = w; areas = areas })) →

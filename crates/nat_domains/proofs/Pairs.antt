@@ -7,11 +7,13 @@ use Rattle.std.proofs.lemmas.Bool.{and_parts, and_from, or_cases, eqb-true, lt-l
 use Rattle.spoc_base.specs.Address.{Cidr}
 use Rattle.policy_model.specs.Lists.{has}
 use Rattle.policy_model.specs.Policy.{Policy, Net, net_of}
-use Rattle.policy_model.specs.Faults.{has_tag}
+use Rattle.policy_model.specs.Zones.{Site, zone_of}
+use Rattle.policy_model.specs.Tags.{Views, zone_view}
+use Rattle.policy_model.specs.Faults.{has_tag, is_translated_inside}
 use Rattle.policy_model.proofs.Views.{list_any_map}
 use Rattle.topology.specs.Sound.{IsNumbered, are_below}
 use Rattle.nat_domains.specs.Places.{NonePasses, IsFirstPlace}
-use Rattle.nat_domains.specs.Translated.{is_pair, is_tag_at, HasNoTwo, HasNoPair, IsLeastPair, IsFirstPair}
+use Rattle.nat_domains.specs.Translated.{is_pair, is_tag_at, HasNoTwo, HasNoPair, IsLeastPair, IsFirstPair, IsLeastInside}
 use Rattle.nat_domains.proofs.Members.{has_at}
 use Rattle.nat_domains.proofs.Viewed.{all_in}
 
@@ -130,6 +132,28 @@ module _ (p : Policy) (n : ℕ) (row : List ℕ) (count : ℕ) (long : length ro
                   let late : b ≤ u.0.place = ⊎_elim (λ low. absurd (false≢true (sym (second.before.fails u.0.place after low) ∙ u.0.passes))) (λ high. high) (cases_lt u.0.place b) in
                   let order = not_lower row up b u.0.place late (omega (arith, u.0.below, long)) in omega (arith, order, u.0.is),
             );
+      }
+
+-- ---- a network's own zone
+
+module _ (s : Site) (v : Views) (n : ℕ) (row : List ℕ) (count : ℕ) (long : length row ≡ count) (is : row ≡ zone_view v (zone_of s n)) (up : IsStrictlyIncreasing (zone_view v (zone_of s n))) where
+  its_rise : IsStrictlyIncreasing row
+  its_rise = subst (λ (xs : List ℕ). IsStrictlyIncreasing xs) (sym is) up
+
+  inside_parts : (tag : ℕ) → is_translated_inside s v n tag ≡ true → (has_tag s.policy n tag ≡ true) × (has row tag ≡ true)
+  inside_parts tag h =
+      let w = and_parts (has_tag s.policy n tag) (has (zone_view v (zone_of s n)) tag) h in (w.0, subst (λ (xs : List ℕ). has xs tag ≡ true) (sym is) w.1)
+
+  pub none_inside : NonePasses (is_tag_at s.policy n row) 0 count → (tag : ℕ) → is_translated_inside s v n tag ≡ true → ⊥
+  none_inside none tag h = let w = inside_parts tag h in no_tag s.policy n row count long its_rise none tag w.0 w.1
+
+  pub least_inside : (a : ℕ) → IsFirstPlace (is_tag_at s.policy n row) 0 count a → IsLeastInside s v n (slice_index row a)
+  least_inside a first =
+      let seen = has_at row a (omega (arith, first.below, long)) in
+      record {
+        here = and_from (has_tag s.policy n (slice_index row a)) (has (zone_view v (zone_of s n)) (slice_index row a)) first.passes
+            (subst (λ (xs : List ℕ). has xs (slice_index row a) ≡ true) is seen);
+        least = λ t h. let w = inside_parts t h in least_tag s.policy n row count long its_rise a first t w.0 w.1;
       }
 
 -- ---- no pair

@@ -1,0 +1,45 @@
+use Rattle.std.proofs.Common.{◌≡◌, ◌<◌, ℕ, List, length, sym, subst}
+use Rattle.std.proofs.lemmas.Result.{err_from_is_err_and}
+use Rattle.spoc_base.specs.declared.fault.Fault.{Fault}
+use Rattle.policy_model.specs.Headline.{Meaning}
+use Rattle.policy_model.specs.Tags.{Views, AreViews}
+use Rattle.topology.specs.First.{HasNone, IsRefusalOf, TellsFirst}
+use Rattle.topology.specs.View.{policy_of, sources_of}
+use Rattle.nat_domains.specs.Marks.{site_of}
+use Rattle.nat_domains.specs.Told.{TellsConflict}
+use Rattle.nat_domains.proofs.Calling.{zone_there}
+use Rattle.nat_domains.proofs.Deciding.{at_site, first_conflict, first_twice, first_inside, none_first, refusal_weaker}
+use Rattle.nat_domains.proofs.find.domains.Goals as goal
+
+pub returns-in_err-table-clause-refused : goal.returns-in_err-table-clause-refused
+returns-in_err-table-clause-refused c =
+    let s = site_of c.args.topo c.args.graph.now in
+    let sources = sources_of c.args.topo in
+    let h = c.in_err-table in
+    let g = c.from_residual in
+    ?
+
+pub returns-in-Some-clause-refused : goal.returns-in-Some-clause-refused
+returns-in-Some-clause-refused c =
+    let p = policy_of c.args.topo in
+    let s = site_of c.args.topo c.args.graph.now in
+    at_site (λ (m : Meaning). TellsFirst (sources_of c.args.topo) m 1 3 c.in-Some.fault) s
+    (λ w areas views. first_twice (sources_of c.args.topo) s c.args.topo.kept.sound.numbered c.in_ok-table.table w areas c.in_ok-table.ensures.views views
+        (zone_there p c.args.graph.now c.requires) c.in_ok-table.ensures.none c.in-Some.fault c.in-Some.ensures)
+
+pub returns-in-Some-inside_fault-clause-refused : goal.returns-in-Some-inside_fault-clause-refused
+returns-in-Some-inside_fault-clause-refused c =
+    let p = policy_of c.args.topo in
+    let s = site_of c.args.topo c.args.graph.now in
+    at_site (λ (m : Meaning). TellsFirst (sources_of c.args.topo) m 1 3 c.in-Some-inside_fault.fault) s
+    (λ w areas views. first_inside (sources_of c.args.topo) s c.args.topo.kept.sound.numbered c.in_ok-table.table w areas c.in_ok-table.ensures.views views
+        (zone_there p c.args.graph.now c.requires) c.in_ok-table.ensures.none c.in_default.ensures c.in-Some-inside_fault.fault c.in-Some-inside_fault.ensures)
+
+pub same-table : goal.same-table
+same-table c = ?
+
+pub returns-clause-views : goal.returns-clause-views
+returns-clause-views c = c.in_ok-table.ensures.views
+
+pub returns-clause-clear : goal.returns-clause-clear
+returns-clause-clear c = ?
