@@ -1,5 +1,5 @@
 -- Tags that interfaces bind, and tags that none binds.
-use Rattle.std.proofs.Common.{◌≡◌, ℕ, ◌+◌, ◌<◌, Bool, true, false, List, length, map, take, refl, sym, ap, subst, ◌∙◌, ⊎_elim, arith, set}
+use Rattle.std.proofs.Common.{◌≡◌, ℕ, ◌+◌, ◌<◌, Bool, true, false, List, length, map, refl, sym, subst, ◌∙◌, ⊎_elim, arith}
 use Rattle.std.specs.Prelude.{nat_lt, slice_index, slice_index_or, IsTrue}
 use Rattle.std.proofs.lemmas.Bool.{ltb-true, false≢true, cases_eq}
 use Rattle.std.proofs.lemmas.List.{length-map}

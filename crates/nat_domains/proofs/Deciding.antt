@@ -1,5 +1,5 @@
 -- The fault that is told is the first of all that tags can have.
-use Rattle.std.proofs.Common.{◌≡◌, ℕ, ◌+◌, ◌<◌, ◌≤◌, Bool, true, false, not, ◌&&◌, ◌||◌, List, [], ◌∷◌, length, refl, sym, ap, subst, ◌∙◌, ⊎_elim, arith}
+use Rattle.std.proofs.Common.{◌≡◌, ℕ, ◌<◌, ◌≤◌, Bool, true, false, not, ◌&&◌, ◌||◌, List, [], ◌∷◌, length, refl, sym, subst, ⊎_elim, arith}
 use Rattle.std.specs.Prelude.{◌==◌, nat_lt, IsTrue}
 use Rattle.std.proofs.lemmas.Bool.{and_parts, and_from, eqb-true, ltb-true, cases_lt, cases_Bool, false≢true}
 use Rattle.spoc_base.specs.declared.place.Source.{Source}
@@ -13,9 +13,9 @@ use Rattle.policy_model.specs.Headline.{Meaning, permits_in}
 use Rattle.spoc_base.specs.declared.fault.Refusal.{Refusal}
 use Rattle.spoc_base.specs.declared.fault.Refusal.TheVariants as refusal
 use Rattle.topology.specs.Sound.{IsNumbered}
-use Rattle.topology.specs.First.{IsWithin, IsFirstWithin, TellsFirst, HasNone, IsRefusalOf}
+use Rattle.topology.specs.First.{IsWithin, TellsFirst, HasNone, IsRefusalOf}
 use Rattle.nat_domains.specs.Conflicts.{HasNoConflict}
-use Rattle.nat_domains.specs.Translated.{is_pair, HasNoPair, HasNoTwice, HasNoInside}
+use Rattle.nat_domains.specs.Translated.{is_pair, HasNoTwice, HasNoInside}
 use Rattle.nat_domains.specs.Told.{TellsConflict, TellsTwice, TellsInside}
 use Rattle.nat_domains.proofs.Pairs.{parts_of, pair_of}
 use Rattle.nat_domains.proofs.Viewed.{tag_below}

@@ -1,11 +1,11 @@
 -- The zones of a router's interfaces, marked one by one.
-use Rattle.std.proofs.Common.{◌≡◌, ℕ, ◌+◌, ◌<◌, inl, inr, Bool, true, false, List, [], ◌∷◌, ◌++◌, length, set, refl, sym, ap, subst, ◌∙◌, ⊎_elim, arith, length-append, length-set}
-use Rattle.std.proofs.lemmas.Bool.{cases_Bool, false≢true}
+use Rattle.std.proofs.Common.{◌≡◌, ℕ, ◌<◌, inl, inr, Bool, true, false, List, [], ◌∷◌, ◌++◌, length, set, refl, sym, ap, subst, ◌∙◌, ⊎_elim, arith, length-append, length-set}
+use Rattle.std.proofs.lemmas.Bool.{false≢true}
 use Rattle.policy_model.specs.Lists.{has}
 use Rattle.policy_model.specs.Zones.{Site, zone_at}
 use Rattle.policy_model.specs.Tags.{binds}
-use Rattle.nat_domains.specs.Marks.{is_marked, unmarked}
-use Rattle.nat_domains.specs.Spreading.{MarksZonesOf, IsFree}
+use Rattle.nat_domains.specs.Marks.{is_marked}
+use Rattle.nat_domains.specs.Spreading.{MarksZonesOf}
 use Rattle.nat_domains.proofs.Members.{has_left, has_right, has_either, has_one, one_has, marked_here, marks_grow, marks_come, one_less}
 
 module _ (s : Site) (tag : ℕ) where

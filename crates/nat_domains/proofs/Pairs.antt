@@ -1,9 +1,9 @@
 -- The first tags of a network in a row.
 use Rattle.std.proofs.Common.{◌≡◌, ℕ, zero, suc, ◌+◌, ◌-◌, ◌<◌, ◌≤◌, Bool, true, false, ◌&&◌, List, [], ◌∷◌, length, map, refl, sym, ap, subst, ◌∙◌, ⊎_elim, arith}
-use Rattle.std.specs.Prelude.{◌==◌, nat_lt, Option, slice_index, slice_index_or, IsTrue}
+use Rattle.std.specs.Prelude.{◌==◌, nat_lt, Option, slice_index, slice_index_or}
 use Rattle.std.specs.List.{list_any}
 use Rattle.std.specs.List.Sorted.{IsStrictlyIncreasing}
-use Rattle.std.proofs.lemmas.Bool.{and_parts, and_from, or_cases, eqb-true, lt-ltb, ltb-true, cases_eq, cases_lt, cases_Bool, false≢true}
+use Rattle.std.proofs.lemmas.Bool.{and_parts, and_from, or_cases, eqb-true, lt-ltb, ltb-true, cases_eq, cases_lt, false≢true}
 use Rattle.spoc_base.specs.Address.{Cidr}
 use Rattle.policy_model.specs.Lists.{has}
 use Rattle.policy_model.specs.Policy.{Policy, Net, net_of}
@@ -11,9 +11,9 @@ use Rattle.policy_model.specs.Zones.{Site, zone_of}
 use Rattle.policy_model.specs.Tags.{Views, zone_view}
 use Rattle.policy_model.specs.Faults.{has_tag, is_translated_inside}
 use Rattle.policy_model.proofs.Views.{list_any_map}
-use Rattle.topology.specs.Sound.{IsNumbered, are_below}
+use Rattle.topology.specs.Sound.{IsNumbered}
 use Rattle.nat_domains.specs.Places.{NonePasses, IsFirstPlace}
-use Rattle.nat_domains.specs.Translated.{is_pair, is_tag_at, HasNoTwo, HasNoPair, IsLeastPair, IsFirstPair, IsLeastInside}
+use Rattle.nat_domains.specs.Translated.{is_pair, is_tag_at, HasNoTwo, HasNoPair, IsLeastPair, IsLeastInside}
 use Rattle.nat_domains.proofs.Members.{has_at}
 use Rattle.nat_domains.proofs.Viewed.{all_in}
 
@@ -124,8 +124,7 @@ module _ (p : Policy) (n : ℕ) (row : List ℕ) (count : ℕ) (long : length ro
               seen_too = has_at row b (omega (arith, second.below, long));
             });
         least = λ t o h.
-            let w = parts_of p row n t o h in
-            (
+            let w = parts_of p row n t o h in (
               least_tag a first t w.first w.seen,
               λ e. let u = behind a first t o w in
                   let after = beyond a u.0.place first.below (omega (arith, u.1, u.0.is)) in

@@ -1,17 +1,17 @@
 -- What marks keep while they spread from zone to zone.
-use Rattle.std.proofs.Common.{◌≡◌, ℕ, ◌+◌, ◌<◌, inl, inr, Bool, true, false, not, ◌&&◌, ◌||◌, List, [], ◌∷◌, ◌++◌, length, set, refl, sym, ap, subst, ◌∙◌, ⊎_elim, arith}
-use Rattle.std.specs.Prelude.{◌==◌, ◌↔◌, nat_lt, filter, slice_index_or}
+use Rattle.std.proofs.Common.{◌≡◌, ℕ, ◌<◌, Bool, true, false, not, ◌&&◌, List, [], ◌∷◌, ◌++◌, length, set, refl, sym, subst, ◌∙◌, ⊎_elim, arith}
+use Rattle.std.specs.Prelude.{◌==◌, ◌↔◌, nat_lt}
 use Rattle.std.proofs.lemmas.Bool.{and_parts, or_cases, or_left, or_right, eqb-true, eq-eqb, lt-ltb, ltb-true, false≢true}
-use Rattle.policy_model.specs.Lists.{has, numbers_below}
-use Rattle.policy_model.specs.Policy.{router_at, is_managed, net_at, all_ifaces}
+use Rattle.policy_model.specs.Lists.{has}
+use Rattle.policy_model.specs.Policy.{router_at, is_managed}
 use Rattle.policy_model.specs.Paths.{Crossing, Reaches, is_through_router, crosses_managed}
 use Rattle.policy_model.specs.Zones.{Site, zone_at}
 use Rattle.policy_model.specs.Tags.{binds, keeps_tag, ifaces_of}
 use Rattle.policy_model.proofs.Tested.{Reaches-stays}
-use Rattle.nat_domains.specs.Marks.{is_marked, unmarked}
-use Rattle.nat_domains.specs.Spreading.{MarksZonesOf, IsSpreading, IsSpreadTo, IsSpread, StaysSpreading}
+use Rattle.nat_domains.specs.Marks.{is_marked}
+use Rattle.nat_domains.specs.Spreading.{MarksZonesOf, IsSpreading, IsSpread, StaysSpreading}
 use Rattle.nat_domains.proofs.Chains.{both, reaches_itself, reaches_on, one_step}
-use Rattle.nat_domains.proofs.Members.{has_left, has_right, has_either, has_one, one_has, has_kept, kept_has, marked_here, marks_grow, marks_come}
+use Rattle.nat_domains.proofs.Members.{has_left, has_right, has_either, has_one, one_has, has_kept, kept_has, marks_grow, marks_come}
 
 not_so : (b : Bool) → b ≡ false → not b ≡ true
 not_so false e = refl

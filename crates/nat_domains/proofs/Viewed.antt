@@ -1,15 +1,15 @@
 -- Rows that list what is in force are the views.
-use Rattle.std.proofs.Common.{◌≡◌, ℕ, zero, suc, ◌+◌, ◌-◌, ◌<◌, ◌≤◌, inl, inr, Bool, true, false, not, ◌&&◌, List, [], ◌∷◌, length, map, refl, sym, ap, subst, ◌∙◌, ⊎_elim, arith}
-use Rattle.std.specs.Prelude.{◌==◌, ◌↔◌, max, fold, nat_lt, slice_index, slice_index_or, IsTrue}
+use Rattle.std.proofs.Common.{◌≡◌, ℕ, zero, suc, ◌+◌, ◌-◌, ◌<◌, ◌≤◌, Bool, true, false, not, ◌&&◌, List, [], ◌∷◌, length, map, refl, sym, ap, subst, ◌∙◌, ⊎_elim, arith}
+use Rattle.std.specs.Prelude.{◌==◌, ◌↔◌, max, fold, nat_lt, slice_index, slice_index_or}
 use Rattle.std.specs.List.{list_any, list_all, range_with_len}
 use Rattle.std.proofs.Math.Nat.{le-max_left, le-max_right}
-use Rattle.std.proofs.lemmas.Bool.{and_parts, and_from, or_cases, or_left, or_right, eqb-true, eq-eqb, ltb-true, cases_Bool, cases_lt, false≢true}
+use Rattle.std.proofs.lemmas.Bool.{and_parts, and_from, or_cases, or_left, or_right, eqb-true, eq-eqb, ltb-true, cases_lt, false≢true}
 use Rattle.policy_model.specs.Lists.{has}
 use Rattle.policy_model.specs.Policy.{router_at, net_at, iface_of, all_routers}
-use Rattle.policy_model.specs.Zones.{Site, zone_at, zone_of, zone_count}
+use Rattle.policy_model.specs.Zones.{Site, zone_at, zone_count}
 use Rattle.policy_model.specs.Tags.{Views, AreViews, IsActive, binds, inner_tags, ifaces_of, zone_view}
 use Rattle.zone_graph.specs.Labels.{AreNumbers}
-use Rattle.topology.specs.Sound.{IsNumbered, are_below}
+use Rattle.topology.specs.Sound.{IsNumbered}
 use Rattle.nat_domains.specs.Inner.{IsActiveIn, IsInnerTag}
 use Rattle.nat_domains.specs.Rows.{AreListed}
 use Rattle.nat_domains.proofs.Members.{has_kept, kept_has}

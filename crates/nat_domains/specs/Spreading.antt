@@ -1,5 +1,5 @@
 -- Marks of zones that spread along the routers through which a tag stays in force.
-use Rattle.std.specs.Prelude.{◌≡◌, ℕ, ◌+◌, ◌<◌, ◌↔◌, ◌⊎◌, ◌||◌, Bool, true, false, List, ◌∷◌, length}
+use Rattle.std.specs.Prelude.{◌≡◌, ℕ, ◌+◌, ◌<◌, ◌↔◌, ◌⊎◌, ◌||◌, Bool, true, false, List, length}
 use Rattle.policy_model.specs.Lists.{has}
 use Rattle.policy_model.specs.Policy.{router_at, is_managed}
 use Rattle.policy_model.specs.Paths.{Reaches}

@@ -1,5 +1,5 @@
 -- Which fault of the tags a refusal tells.
-use Rattle.std.specs.Prelude.{◌≡◌, ℕ, ◌<◌, ◌≤◌, List, length}
+use Rattle.std.specs.Prelude.{ℕ, ◌<◌, List, length}
 use Rattle.spoc_base.specs.declared.place.Source.{Source}
 use Rattle.spoc_base.specs.declared.fault.Fault.{Fault}
 use Rattle.policy_model.specs.Zones.{Site, zone_count}

@@ -1,5 +1,5 @@
 -- Networks that are translated twice, or inside.
-use Rattle.std.specs.Prelude.{◌≡◌, ℕ, ◌<◌, ◌≤◌, Bool, true, ◌&&◌, nat_lt, List, length, map, slice_index, Option, MatchOption}
+use Rattle.std.specs.Prelude.{◌≡◌, ℕ, ◌<◌, ◌≤◌, Bool, true, ◌&&◌, nat_lt, List, length, map, slice_index}
 use Rattle.spoc_base.specs.declared.ids.TagId.{TagId}
 use Rattle.policy_model.specs.Lists.{has}
 use Rattle.policy_model.specs.Policy.{Policy}

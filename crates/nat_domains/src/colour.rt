@@ -162,7 +162,11 @@ pub(crate) fn inner_routers(
     let mut marks = no_marks(alloc, router_count(topo))?;
     for i in 0..iface_count(topo) {
         let r = router_of_iface(topo, IfId(i));
-        mark_if(&mut marks, r.0, sees_inside(topo, graph, binders, active, IfId(i)));
+        mark_if(
+            &mut marks,
+            r.0,
+            sees_inside(topo, graph, binders, active, IfId(i)),
+        );
     }
     Ok(marks)
 }

@@ -132,11 +132,7 @@ fn first_pair(topo: Topo<'_>, row: &[TagId]) -> Option<Twice>
 }
 
 /// The first fault of a network that is translated twice.
-pub(crate) fn twice_fault(
-    topo: Topo<'_>,
-    graph: &ZoneGraph,
-    table: &TagTable,
-) -> Option<Fault>
+pub(crate) fn twice_fault(topo: Topo<'_>, graph: &ZoneGraph, table: &TagTable) -> Option<Fault>
     requires graph { IsGraphOf (policy_of topo) graph.now }
     requires views { AreViews (site_of topo graph.now) table.now }
     ensures { MatchOption result (HasNoTwice (site_of topo.entry graph.now) table.now) (λ fault. TellsTwice (sources_of topo.entry) (site_of topo.entry graph.now) table.now fault) }
@@ -150,12 +146,7 @@ pub(crate) fn twice_fault(
 }
 
 // The first tag of a network that is in force in its own zone.
-fn tag_inside(
-    topo: Topo<'_>,
-    graph: &ZoneGraph,
-    table: &TagTable,
-    n: NetId,
-) -> Option<TagId>
+fn tag_inside(topo: Topo<'_>, graph: &ZoneGraph, table: &TagTable, n: NetId) -> Option<TagId>
     requires graph { IsGraphOf (policy_of topo) graph.now }
     requires views { AreViews (site_of topo graph.now) table.now }
     requires net { n.0 < length (policy_of topo).nets }
@@ -167,11 +158,7 @@ fn tag_inside(
 }
 
 /// The first fault of a network that is translated inside.
-pub(crate) fn inside_fault(
-    topo: Topo<'_>,
-    graph: &ZoneGraph,
-    table: &TagTable,
-) -> Option<Fault>
+pub(crate) fn inside_fault(topo: Topo<'_>, graph: &ZoneGraph, table: &TagTable) -> Option<Fault>
     requires graph { IsGraphOf (policy_of topo) graph.now }
     requires views { AreViews (site_of topo graph.now) table.now }
     ensures { MatchOption result (HasNoInside (site_of topo.entry graph.now) table.now (length (policy_of topo.entry).nets)) (λ fault. TellsInside (sources_of topo.entry) (site_of topo.entry graph.now) table.now fault) }

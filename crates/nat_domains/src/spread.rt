@@ -159,7 +159,15 @@ pub(crate) fn spread(
     let mut waiting = marked_numbers(alloc, marks, graph.count())?;
     let mut passed = no_marks(alloc, router_count(topo))?;
     while let Some(z) = waiting.pop() {
-        leave_zone(topo, graph, tag, ZoneId(z), marks, &mut waiting, &mut passed)?;
+        leave_zone(
+            topo,
+            graph,
+            tag,
+            ZoneId(z),
+            marks,
+            &mut waiting,
+            &mut passed,
+        )?;
     }
     Ok(())
 }

@@ -1,4 +1,4 @@
-use Rattle.std.proofs.Common.{◌≡◌, ◌∙◌, ◌∷◌, [], ◌<◌, ℕ, List, true, length, map, take, set, slice_index_or, sym, ap, subst, ⊎_elim, arith}
+use Rattle.std.proofs.Common.{◌≡◌, ◌∷◌, [], ◌<◌, ℕ, List, true, length, map, take, set, slice_index_or, subst, ⊎_elim, arith}
 use Rattle.spoc_base.specs.declared.ids.TagId.{TagId}
 use Rattle.policy_model.specs.Lists.{has}
 use Rattle.nat_domains.specs.Marks.{is_marked}

@@ -1,4 +1,4 @@
-use Rattle.std.proofs.Common.{◌≡◌, ℕ, true, length, take, map}
+use Rattle.std.proofs.Common.{◌≡◌, ℕ, true, take, map}
 use Rattle.policy_model.specs.Lists.{has}
 use Rattle.nat_domains.specs.Marks.{is_marked}
 use Rattle.nat_domains.specs.Spreading.{Grows}

@@ -1,4 +1,4 @@
-use Rattle.std.proofs.Common.{◌≡◌, ◌∙◌, ◌++◌, List, Bool, true, length, take, drop, vec_len, sym, ap, subst}
+use Rattle.std.proofs.Common.{◌≡◌, ◌∙◌, List, Bool, true, length, vec_len, sym, ap, subst}
 use Rattle.std.specs.Prelude.{◌↔◌}
 use Rattle.policy_model.specs.Tags.{IsActive}
 use Rattle.nat_domains.specs.Marks.{site_of, is_marked}
@@ -19,5 +19,5 @@ returns-clause-active c =
     let new = c.spread.new.marks in
     let e = written (vec_len c.in_ok-marks.marks) new c.in_ok-marks.marks.items (sym c.deref_mut.ensures.len ∙ sym c.spread.auto.marks) in
     λ z. subst (λ (xs : List Bool). (is_marked xs z ≡ true) ↔ IsActive s c.args.tag.0 z) (sym e)
-        (active_by s c.args.tag.0 c.in_ok-marks.marks.items new c.in_ok-marks.ensures.marked
-        (subst (λ (xs : List Bool). IsSpread s c.args.tag.0 xs new) c.deref_mut.ensures.value c.in_ok-spread.ensures) z)
+    (active_by s c.args.tag.0 c.in_ok-marks.marks.items new c.in_ok-marks.ensures.marked
+    (subst (λ (xs : List Bool). IsSpread s c.args.tag.0 xs new) c.deref_mut.ensures.value c.in_ok-spread.ensures) z)

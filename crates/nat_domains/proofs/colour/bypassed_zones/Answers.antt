@@ -1,4 +1,4 @@
-use Rattle.std.proofs.Common.{◌≡◌, ◌∙◌, ◌+◌, ◌<◌, ℕ, List, Bool, true, length, vec_len, sym, ap, subst, arith}
+use Rattle.std.proofs.Common.{◌≡◌, ◌∙◌, ◌+◌, ℕ, List, Bool, length, vec_len, sym, ap, subst, arith}
 use Rattle.std.specs.Prelude.{not, ◌&&◌}
 use Rattle.policy_model.specs.Policy.{router_at}
 use Rattle.policy_model.specs.Zones.{zone_at}
@@ -6,7 +6,7 @@ use Rattle.policy_model.specs.Tags.{binds}
 use Rattle.topology.specs.View.{policy_of}
 use Rattle.nat_domains.specs.Marks.{site_of, is_marked, with_mark, AreMarkedBy}
 use Rattle.nat_domains.proofs.Members.{written}
-use Rattle.nat_domains.proofs.Coloured.{none_marked, one_marked, inner_by}
+use Rattle.nat_domains.proofs.Coloured.{none_marked, one_marked}
 use Rattle.nat_domains.proofs.colour.bypassed_zones.Goals as goal
 
 pub loop-i-init : goal.loop-i-init

@@ -1,8 +1,7 @@
-use Rattle.std.proofs.Common.{◌≡◌, ◌∙◌, ◌+◌, ◌<◌, ℕ, List, Bool, true, length, vec_len, sym, ap, subst, arith}
+use Rattle.std.proofs.Common.{◌≡◌, ◌∙◌, ◌+◌, ℕ, List, Bool, length, vec_len, sym, ap, subst, arith}
 use Rattle.std.specs.Prelude.{not, ◌&&◌}
 use Rattle.policy_model.specs.Policy.{router_at}
 use Rattle.policy_model.specs.Zones.{zone_at}
-use Rattle.policy_model.specs.Tags.{binds}
 use Rattle.topology.specs.View.{policy_of}
 use Rattle.nat_domains.specs.Marks.{site_of, is_marked, with_mark, AreMarkedBy}
 use Rattle.nat_domains.proofs.Members.{written}

@@ -2,7 +2,6 @@ use Rattle.std.proofs.Common.{◌≡◌, length}
 use Rattle.std.specs.Prelude.{not, ◌&&◌}
 use Rattle.policy_model.specs.Policy.{router_at}
 use Rattle.policy_model.specs.Zones.{zone_at}
-use Rattle.policy_model.specs.Tags.{binds}
 use Rattle.topology.specs.View.{policy_of}
 use Rattle.nat_domains.specs.Marks.{site_of, is_marked, AreMarkedBy}
 use Rattle.nat_domains.proofs.colour.inner_routers.Given as goal

@@ -1,9 +1,9 @@
-use Rattle.std.proofs.Common.{◌≡◌, ◌<◌, ℕ, List, length, refl, sym, subst}
+use Rattle.std.proofs.Common.{◌≡◌, refl}
 use Rattle.std.proofs.lemmas.Result.{err_from_is_err_and}
 use Rattle.spoc_base.specs.declared.fault.Fault.{Fault}
 use Rattle.policy_model.specs.Headline.{Meaning}
-use Rattle.policy_model.specs.Tags.{Views, AreViews}
-use Rattle.topology.specs.First.{HasNone, IsRefusalOf, TellsFirst}
+use Rattle.policy_model.specs.Tags.{AreViews}
+use Rattle.topology.specs.First.{HasNone, TellsFirst}
 use Rattle.topology.specs.View.{policy_of, sources_of}
 use Rattle.nat_domains.specs.Marks.{site_of}
 use Rattle.nat_domains.specs.Told.{TellsConflict}
@@ -27,7 +27,7 @@ returns-in-Some-clause-refused c =
     let s = site_of c.args.topo c.args.graph.now in
     at_site (λ (m : Meaning). TellsFirst (sources_of c.args.topo) m 1 3 c.in-Some.fault) s
     (λ w areas views. first_twice (sources_of c.args.topo) s c.args.topo.kept.sound.numbered c.in_ok-table.table w areas c.in_ok-table.ensures.views views
-        (zone_there p c.args.graph.now c.requires) c.in_ok-table.ensures.none c.in-Some.fault c.in-Some.ensures)
+    (zone_there p c.args.graph.now c.requires) c.in_ok-table.ensures.none c.in-Some.fault c.in-Some.ensures)
 
 pub returns-in-Some-inside_fault-clause-refused : goal.returns-in-Some-inside_fault-clause-refused
 returns-in-Some-inside_fault-clause-refused c =
@@ -35,7 +35,7 @@ returns-in-Some-inside_fault-clause-refused c =
     let s = site_of c.args.topo c.args.graph.now in
     at_site (λ (m : Meaning). TellsFirst (sources_of c.args.topo) m 1 3 c.in-Some-inside_fault.fault) s
     (λ w areas views. first_inside (sources_of c.args.topo) s c.args.topo.kept.sound.numbered c.in_ok-table.table w areas c.in_ok-table.ensures.views views
-        (zone_there p c.args.graph.now c.requires) c.in_ok-table.ensures.none c.in_default.ensures c.in-Some-inside_fault.fault c.in-Some-inside_fault.ensures)
+    (zone_there p c.args.graph.now c.requires) c.in_ok-table.ensures.none c.in_default.ensures c.in-Some-inside_fault.fault c.in-Some-inside_fault.ensures)
 
 pub same-table : goal.same-table
 same-table c = refl
@@ -49,4 +49,4 @@ returns-clause-clear c =
     let s = site_of c.args.topo c.args.graph.now in
     at_site (λ (m : Meaning). HasNone m 1 3) s
     (λ w areas views. none_first (sources_of c.args.topo) s c.args.topo.kept.sound.numbered c.in_ok-table.table w areas c.in_ok-table.ensures.views views
-        (zone_there p c.args.graph.now c.requires) c.in_ok-table.ensures.none c.in_default.ensures c.in_default-inside_fault.ensures)
+    (zone_there p c.args.graph.now c.requires) c.in_ok-table.ensures.none c.in_default.ensures c.in_default-inside_fault.ensures)

@@ -1,4 +1,4 @@
-use Rattle.std.proofs.Common.{◌≡◌, ◌∙◌, ℕ, Option, length, sym, subst, arith}
+use Rattle.std.proofs.Common.{Option, length, sym, subst, arith}
 use Rattle.policy_model.specs.Tags.{Views, AreViews}
 use Rattle.topology.specs.View.{policy_of}
 use Rattle.nat_domains.specs.declared.table.Conflict.{Conflict}

@@ -1,4 +1,4 @@
-use Rattle.std.proofs.Common.{◌≡◌, ◌<◌, [], length, ap, arith}
+use Rattle.std.proofs.Common.{◌<◌, [], length, ap, arith}
 use Rattle.spoc_base.specs.declared.place.Kind.TheVariants as kind
 use Rattle.spoc_base.specs.declared.place.Named.TheVariants.{Plain}
 use Rattle.policy_model.specs.Policy.{Tag}

@@ -1,4 +1,4 @@
-use Rattle.std.proofs.Common.{◌≡◌, ◌∙◌, ◌<◌, ℕ, List, length, sym, ap, subst}
+use Rattle.std.proofs.Common.{◌∙◌, ◌<◌, ℕ, List, length, sym, ap, subst}
 use Rattle.std.specs.Prelude.{slice_index}
 use Rattle.topology.specs.View.{policy_of, sources_of}
 use Rattle.nat_domains.specs.Marks.{site_of}

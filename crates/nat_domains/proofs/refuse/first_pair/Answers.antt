@@ -1,4 +1,4 @@
-use Rattle.std.proofs.Common.{◌≡◌, ◌<◌, ◌≤◌, ℕ, length, sym, subst, ⊎_elim, arith}
+use Rattle.std.proofs.Common.{◌<◌, ◌≤◌, ℕ, length, sym, subst, ⊎_elim, arith}
 use Rattle.std.proofs.lemmas.Bool.{cases_eq}
 use Rattle.std.proofs.lemmas.List.{length-map}
 use Rattle.spoc_base.specs.declared.ids.TagId.{TagId}

@@ -7,7 +7,6 @@ use Rattle.policy_model.specs.Faults.{has_tag, is_translated_inside}
 use Rattle.topology.specs.View.{policy_of}
 use Rattle.nat_domains.specs.Marks.{site_of}
 use Rattle.nat_domains.proofs.Pairs.{tag_there}
-use Rattle.nat_domains.specs.Translated.{HasNoInside}
 use Rattle.nat_domains.proofs.refuse.inside_fault.Goals as goal
 
 pub told_inside-requires-clause-tag : goal.told_inside-requires-clause-tag
@@ -34,7 +33,7 @@ pub loop-n-preserved : goal.loop-n-preserved
 loop-n-preserved c =
     let s = site_of c.args.topo c.args.graph.now in
     λ m t low h. ⊎_elim (λ e. c.in_default.ensures t (subst (λ (x : ℕ). is_translated_inside s c.args.table.now x t ≡ true) e h))
-        (λ ne. c.loop-n.invariant m t (omega (arith, low, ne)) h) (cases_eq m c.loop-n.n)
+    (λ ne. c.loop-n.invariant m t (omega (arith, low, ne)) h) (cases_eq m c.loop-n.n)
 
 pub returns : goal.returns
 returns c = λ m t low h. c.loop-n.invariant m t (omega (arith, low, c.loop-n-test.false, c.net_count-n-end.ensures)) h

@@ -1,4 +1,4 @@
-use Rattle.std.proofs.Common.{◌≡◌, ◌<◌, ℕ, List, length, sym, subst, ⊎_elim, arith}
+use Rattle.std.proofs.Common.{ℕ, List, sym, subst, ⊎_elim, arith}
 use Rattle.std.specs.List.Sorted.{IsStrictlyIncreasing}
 use Rattle.std.proofs.lemmas.Bool.{cases_eq}
 use Rattle.policy_model.specs.Tags.{zone_view}
@@ -52,7 +52,7 @@ loop-z-preserved c =
     let p = policy_of c.args.topo in
     let v = c.args.table.now in
     λ y low. ⊎_elim (λ e. subst (λ (x : ℕ). HasNoPair p (zone_view v x)) (sym e) (subst (λ (xs : List ℕ). HasNoPair p xs) c.zone.ensures c.in_default.ensures))
-        (λ ne. c.loop-z.invariant y (omega (arith, low, ne))) (cases_eq y c.loop-z.z)
+    (λ ne. c.loop-z.invariant y (omega (arith, low, ne))) (cases_eq y c.loop-z.z)
 
 pub returns : goal.returns
 returns c =

@@ -1,7 +1,6 @@
-use Rattle.std.proofs.Common.{◌≡◌, ◌∙◌, ◌<◌, ℕ, Some, length, map, refl, sym, ap, subst, arith}
-use Rattle.std.specs.Prelude.{Option, slice_index, slice_index_or}
+use Rattle.std.proofs.Common.{◌≡◌, ◌∙◌, ℕ, Some, length, refl, sym, ap, subst, arith}
+use Rattle.std.specs.Prelude.{slice_index, slice_index_or}
 use Rattle.std.proofs.lemmas.List.{length-map}
-use Rattle.spoc_base.specs.Address.{Cidr}
 use Rattle.spoc_base.specs.Shown.{cidr_of}
 use Rattle.spoc_base.specs.declared.address.Prefix.{Prefix}
 use Rattle.spoc_base.specs.declared.ids.TagId.{TagId}

@@ -1,4 +1,4 @@
-use Rattle.std.proofs.Common.{◌≡◌, ◌≤◌, ◌∙◌, length, refl, arith}
+use Rattle.std.proofs.Common.{◌≤◌, ◌∙◌, length, refl, arith}
 use Rattle.nat_domains.specs.Rows.{tag_rows}
 use Rattle.nat_domains.proofs.Listing.{nothing_put, one_put, all_put}
 use Rattle.nat_domains.proofs.rows.put_marked.Goals as goal

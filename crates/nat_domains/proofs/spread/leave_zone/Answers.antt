@@ -1,12 +1,11 @@
-use Rattle.std.proofs.Common.{◌≡◌, ◌∙◌, ◌+◌, ◌<◌, ◌∷◌, [], ℕ, List, Bool, true, false, length, take, sym, ap, subst, arith, slice_index_or, ⊎_elim}
+use Rattle.std.proofs.Common.{◌≡◌, ◌∙◌, ◌∷◌, [], ℕ, List, true, take, sym, ap, subst, slice_index_or, ⊎_elim}
 use Rattle.std.specs.Prelude.{map}
 use Rattle.policy_model.specs.Lists.{has}
-use Rattle.policy_model.specs.Policy.{router_at, is_managed}
+use Rattle.policy_model.specs.Policy.{router_at}
 use Rattle.policy_model.specs.Tags.{binds}
-use Rattle.policy_model.specs.Zones.{zone_at}
 use Rattle.topology.specs.View.{policy_of}
 use Rattle.nat_domains.specs.Marks.{site_of, is_marked}
-use Rattle.nat_domains.specs.Spreading.{StaysSpreading, IsSpreading}
+use Rattle.nat_domains.specs.Spreading.{StaysSpreading}
 use Rattle.nat_domains.proofs.Members.{has_either, has_one, one_more}
 use Rattle.std.proofs.lemmas.List.{take_all}
 use Rattle.nat_domains.proofs.Passing.{zone_left}
@@ -49,7 +48,7 @@ returns-clause-stays c =
     let s = site_of c.args.topo c.args.graph.now in
     let ids = c.doors-i-items.result.now in
     λ start old. zone_left s c.args.tag.0 c.args.z.0 start c.loop-i.marks c.loop-i.waiting.items c.loop-i.passed
-        (λ i there managed at free.
-            let listed = door_has p c.args.graph.now c.requires.graph c.args.z.0 c.requires.there ids c.doors-i-items.ensures i (record { there = there; managed = managed; at = at }) in
-            c.loop-i.invariant.gone i (subst (λ (xs : List _). has (map (λ j. j.0) xs) i ≡ true) (sym (take_all c.loop-i.i-index ids c.loop-i-test.false)) listed) free)
-        (c.loop-i.invariant.stays start old)
+    (λ i there managed at free.
+    let listed = door_has p c.args.graph.now c.requires.graph c.args.z.0 c.requires.there ids c.doors-i-items.ensures i (record { there = there; managed = managed; at = at }) in
+    c.loop-i.invariant.gone i (subst (λ (xs : List _). has (map (λ j. j.0) xs) i ≡ true) (sym (take_all c.loop-i.i-index ids c.loop-i-test.false)) listed) free)
+    (c.loop-i.invariant.stays start old)

@@ -1,4 +1,4 @@
-use Rattle.std.proofs.Common.{◌≡◌, ◌∙◌, sym, ap, subst, arith, ◌<◌, ℕ, List, Bool, true, false, length, set, [], ◌∷◌, ◌++◌}
+use Rattle.std.proofs.Common.{◌∙◌, sym, ap, subst, arith, ℕ, List, true, set, [], ◌∷◌}
 use Rattle.nat_domains.specs.Marks.{site_of, is_marked}
 use Rattle.nat_domains.specs.Spreading.{MarksZonesOf}
 use Rattle.nat_domains.proofs.Marking.{bound_left, marked_left, newly_marked}

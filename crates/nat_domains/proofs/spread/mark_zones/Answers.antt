@@ -1,4 +1,4 @@
-use Rattle.std.proofs.Common.{◌≡◌, ◌+◌, ◌∙◌, ◌<◌, ◌∷◌, [], ℕ, List, length, take, sym, subst, arith, slice_index_or}
+use Rattle.std.proofs.Common.{◌<◌, ◌∷◌, [], ℕ, List, length, take, sym, subst, arith, slice_index_or}
 use Rattle.std.specs.Prelude.{◌==◌, map, slice_index}
 use Rattle.std.proofs.lemmas.List.{length-map}
 use Rattle.policy_model.specs.Policy.{router_at}

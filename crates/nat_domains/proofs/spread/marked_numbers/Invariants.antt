@@ -1,4 +1,4 @@
-use Rattle.std.proofs.Common.{◌≡◌, ◌<◌, ℕ, true, length}
+use Rattle.std.proofs.Common.{◌≡◌, ◌<◌, ℕ, true}
 use Rattle.policy_model.specs.Lists.{has}
 use Rattle.nat_domains.specs.Marks.{is_marked}
 use Rattle.nat_domains.proofs.spread.marked_numbers.Given as goal

@@ -1,9 +1,8 @@
-use Rattle.std.proofs.Common.{◌≡◌, ◌∙◌, ◌<◌, ◌∷◌, ℕ, List, Bool, true, length, set, sym, ap, subst, arith}
-use Rattle.policy_model.specs.Policy.{router_at}
+use Rattle.std.proofs.Common.{◌∙◌, ◌∷◌, ℕ, true, set, sym, subst, arith}
 use Rattle.policy_model.specs.Tags.{ifaces_of}
 use Rattle.policy_model.specs.Zones.{zone_at}
 use Rattle.topology.specs.View.{policy_of}
-use Rattle.nat_domains.specs.Marks.{site_of, is_marked}
+use Rattle.nat_domains.specs.Marks.{site_of}
 use Rattle.nat_domains.specs.Spreading.{MarksZonesOf, StaysSpreading}
 use Rattle.nat_domains.proofs.Passing.{router_passed}
 use Rattle.nat_domains.proofs.spread.pass_router.Goals as goal

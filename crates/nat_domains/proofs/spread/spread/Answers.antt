@@ -1,12 +1,10 @@
-use Rattle.std.proofs.Common.{◌≡◌, ◌∙◌, ◌<◌, ◌∷◌, ◌++◌, [], ℕ, List, Bool, true, false, length, take, drop, vec_len, refl, sym, ap, subst, arith, ⊎_elim}
+use Rattle.std.proofs.Common.{◌≡◌, ◌∙◌, ◌∷◌, ◌++◌, [], ℕ, List, Bool, true, length, take, drop, vec_len, refl, sym, ap, subst, arith}
 use Rattle.policy_model.specs.Lists.{has}
 use Rattle.std.proofs.Math.Seq.{take-append_seam}
-use Rattle.std.proofs.lemmas.Bool.{cases_lt}
-use Rattle.topology.specs.View.{policy_of}
-use Rattle.nat_domains.specs.Marks.{site_of, is_marked}
-use Rattle.nat_domains.specs.Spreading.{StaysSpreading, IsSpreading}
+use Rattle.nat_domains.specs.Marks.{site_of}
+use Rattle.nat_domains.specs.Spreading.{IsSpreading}
 use Rattle.nat_domains.proofs.Members.{marked_below, has_right, one_has}
-use Rattle.nat_domains.proofs.Passing.{taken_first, nothing_passed, all_spread}
+use Rattle.nat_domains.proofs.Passing.{taken_first, all_spread}
 use Rattle.nat_domains.proofs.spread.spread.Goals as goal
 
 pub leave_zone-requires-clause-there : goal.leave_zone-requires-clause-there

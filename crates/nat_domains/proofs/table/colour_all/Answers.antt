@@ -1,4 +1,4 @@
-use Rattle.std.proofs.Common.{◌≡◌, ◌∙◌, ℕ, ◌<◌, length, sym, subst, arith}
+use Rattle.std.proofs.Common.{◌≡◌, ◌∙◌, ℕ, length, sym, subst, arith}
 use Rattle.topology.specs.View.{policy_of}
 use Rattle.nat_domains.specs.Inner.{IsActiveIn, IsInnerTag}
 use Rattle.nat_domains.specs.Marks.{site_of}

@@ -1,4 +1,4 @@
-use Rattle.std.proofs.Common.{◌≡◌, ◌∙◌, ℕ, List, Bool, true, length, sym, ap, subst}
+use Rattle.std.proofs.Common.{◌≡◌, ◌∙◌, List, Bool, true, length, sym, ap, subst}
 use Rattle.std.specs.Prelude.{◌↔◌}
 use Rattle.policy_model.specs.Tags.{IsActive, IsBarred}
 use Rattle.nat_domains.specs.Inner.{IsActiveIn, IsInnerTag}
