@@ -1,5 +1,5 @@
 -- The names that are cut out of the sources are those of the policy.
-use Rattle.std.proofs.Common.{◌≡◌, ◌∙◌, refl, sym, ap, ℕ, ◌<◌, ◌≤◌, ◌-◌, Bool, true, ◌&&◌, cond, List, [], ◌∷◌, ◌++◌, length, map, take, drop, get_or, Some, arith}
+use Rattle.std.proofs.Common.{◌≡◌, ◌∙◌, refl, sym, ap, ℕ, ◌≤◌, ◌-◌, true, ◌&&◌, cond, List, [], ◌∷◌, ◌++◌, length, map, take, drop, get_or, Some, arith}
 use Rattle.std.specs.Prelude.{nat_le, codes, slice_get}
 use Rattle.std.proofs.lemmas.List.{get_or-map}
 use Rattle.std.proofs.lemmas.Option.{slice_get-get_or}
@@ -10,7 +10,7 @@ use Rattle.spoc_base.specs.declared.place.Kind.{Kind}
 use Rattle.spoc_base.specs.declared.place.Named.{Named}
 use Rattle.topology.specs.Texts as theirs
 use Rattle.topology.specs.Told.{IsNameOf}
-use Rattle.fault_text.specs.Texts.{Files, pair_of, part_of, text_at, kind_word, named_word, bare_name}
+use Rattle.fault_text.specs.Texts.{pair_of, part_of, text_at, kind_word, named_word, bare_name}
 use Rattle.fault_text.specs.Cases.{under}
 
 pub same_text : (sources : List Source) (span : Span) → theirs.LiesIn sources span → text_at (map pair_of sources) span ≡ theirs.text_at sources span

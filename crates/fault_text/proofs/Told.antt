@@ -1,5 +1,5 @@
 -- The line of a fault that tells a case.
-use Rattle.std.proofs.Common.{◌≡◌, ◌∙◌, refl, sym, ap, ℕ, List, [], ◌∷◌, ◌++◌, map, append_assoc, append-nil, Option, Some, None}
+use Rattle.std.proofs.Common.{◌≡◌, ◌∙◌, refl, ap, ℕ, List, [], ◌∷◌, ◌++◌, map, append_assoc, append-nil, Option, Some, None}
 use Rattle.std.specs.Prelude.{codes, flat_map}
 use Rattle.spoc_base.specs.declared.place.Source.{Source}
 use Rattle.spoc_base.specs.declared.place.Kind.TheVariants as kind
@@ -8,7 +8,6 @@ use Rattle.spoc_base.specs.declared.fault.Fault.{Fault}
 use Rattle.spoc_base.specs.declared.fault.Fault.TheVariants as fault
 use Rattle.spoc_base.specs.declared.fault.HopAt.{HopAt}
 use Rattle.spoc_base.specs.declared.fault.HopAt.TheVariants.{Next, Direct}
-use Rattle.policy_model.specs.Policy.{Policy, net_of, host_of, router_of, area_of, router_at, net_at}
 use Rattle.policy_model.specs.Zones.{Site}
 use Rattle.policy_model.specs.Routes.{NextHop}
 use Rattle.policy_model.specs.FirstFault.{FaultCase, ViewPlace, AtZone, AtRouter, AreaSplit, NatConflict, NatTwice, NatInside, LimitViews, SamePrefix, HostShadowed, IfaceShadowed, ManagedEnd, LimitPermits, NoPath, HiddenEnd, LimitLines, LimitRoutes, NoHopAddress, AmbiguousHop}

@@ -1,0 +1,13 @@
+mod Binding
+mod Calling
+mod Chains
+mod Coloured
+mod Conflicting
+mod Deciding
+mod Doors
+mod Listing
+mod Members
+mod Marking
+mod Pairs
+mod Passing
+mod Viewed

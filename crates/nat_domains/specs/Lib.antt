@@ -1,0 +1,9 @@
+pub mod Bound
+pub mod Conflicts
+pub mod Inner
+pub mod Marks
+pub mod Places
+pub mod Rows
+pub mod Spreading
+pub mod Told
+pub mod Translated

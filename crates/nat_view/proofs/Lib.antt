@@ -1,0 +1,5 @@
+pub mod Finding
+pub mod Items
+pub mod Moving
+pub mod Placed
+pub mod Placing

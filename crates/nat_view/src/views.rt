@@ -1,0 +1,52 @@
+ghost use Rattle.topology.specs.View.{policy_of};
+ghost use Rattle.nat_view.specs.Places.{AreTables};
+ghost use Rattle.std.proofs.Props.{props};
+
+use crate::table::Table;
+use crate::view::View;
+use spoc_base::{RouterId, ZoneId};
+use topology::Topo;
+
+/// The views of all zones and routers. Those with equal tags share one table.
+#[derive(Drop)]
+pub struct Views<'a> {
+    pub(crate) topo: Topo<'a>,
+    pub(crate) tables: Vec<Table>,
+    pub(crate) places: Vec<usize>,
+    pub(crate) zones: usize,
+    ghost kept: { AreTables (policy_of topo) tables.items places.items } by { Prim.hlevel props },
+}
+
+impl<'a> Views<'a> {
+    ghost use Rattle.std.specs.Prelude.{◌≡◌, ◌<◌, length};
+    ghost use Rattle.std.specs.Prelude.{slice_index_or, []};
+    ghost use Rattle.policy_model.specs.Tags.{zone_view, router_view};
+    ghost use Rattle.topology.specs.View.{policy_of};
+    ghost use Rattle.nat_view.specs.Places.{rows_of};
+    ghost use Rattle.nat_view.specs.Sights.{sight_of};
+    ghost use Rattle.nat_view.specs.Views.{seen_of};
+
+    // The view of a row.
+    fn at(&self, k: usize) -> View<'_>
+        requires { k < length self.now.places.items }
+        ensures { sight_of result ≡ record { policy = policy_of self.now.topo; tags = slice_index_or (rows_of self.now.tables.items self.now.places.items) k [] } }
+    {
+        View::new(self.topo, &self.tables[self.places[k]])
+    }
+
+    /// The view of a zone.
+    pub fn zone(&self, z: ZoneId) -> View<'_>
+        requires { z.0 < length (seen_of self.now).views.zones }
+        ensures { sight_of result ≡ record { policy = (seen_of self.now).policy; tags = zone_view (seen_of self.now).views z.0 } }
+    {
+        self.at(z.0 as usize)
+    }
+
+    /// The view inside a router.
+    pub fn router(&self, r: RouterId) -> View<'_>
+        requires { r.0 < length (seen_of self.now).views.routers }
+        ensures { sight_of result ≡ record { policy = (seen_of self.now).policy; tags = router_view (seen_of self.now).views r.0 } }
+    {
+        self.at(self.zones + r.0 as usize)
+    }
+}

@@ -1,0 +1,15 @@
+mod Ascending
+mod Standing
+mod Bridges
+mod Fronts
+mod Going
+mod Marked
+mod Marking
+mod Prefixes
+mod Pushing
+mod Retracing
+mod Rows
+mod Starts
+mod Tree
+mod FirstWalks
+mod Open

@@ -1,0 +1,6 @@
+pub mod Begun
+pub mod Next
+pub mod Pairs
+pub mod Search
+pub mod Seen
+pub mod Stack
