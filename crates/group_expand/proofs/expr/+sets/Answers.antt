@@ -7,14 +7,15 @@ use Rattle.group_expand.specs.Scope.{objects_in}
 use Rattle.group_expand.specs.Sets.{object_seen, with_objects}
 use Rattle.group_expand.proofs.Loops.{if_ok, items_end}
 use Rattle.group_expand.proofs.UnionSets.{first_sound, next_term_sound, parts_left_sound, parts_on, objects_to_come}
+use Rattle.topology.specs.declared.sets.Term.TheViews.{the_lemmas}
 use Rattle.group_expand.proofs.expr.+sets.Goals as goal
 
 pub of_part-of_term-requires : goal.of_part-of_term-requires
-of_part-of_term-requires t c = (?, (c.requires.scope, first_sound (policy_of c.args.scope.now.topo) c.args.part.now c.requires.sound))
+of_part-of_term-requires t c = (search (rules, the_lemmas), (c.requires.scope, first_sound (policy_of c.args.scope.now.topo) c.args.part.now c.requires.sound))
 
 pub of_part-of_term-requires-in-loop-further : goal.of_part-of_term-requires-in-loop-further
 of_part-of_term-requires-in-loop-further t c = (
-    ?,
+    search (rules, the_lemmas),
     (
       c.requires.scope,
       next_term_sound (policy_of c.args.scope.now.topo) (out-Inter c.args.part.now).rest.now c.loop-further.further-index c.further-item.result c.loop-further-test.true c.further-item.is
