@@ -1,15 +1,15 @@
 -- What a sound policy says of its areas, and their zones.
-use Rattle.std.proofs.Common.{◌≡◌, ℕ, zero, suc, ◌+◌, ◌<◌, ◌≤◌, inl, inr, Bool, true, false, not, cond, ◌&&◌, ◌||◌, List, [], ◌∷◌, ◌++◌, length, map, refl, sym, ap, subst, ◌∙◌, ⊎_elim, arith, slice_index, slice_index_or}
-use Rattle.std.specs.Prelude.{◌==◌, ◌↔◌, nat_lt, filter, Option, Some, None, is_some, IfSome, IsTrue}
-use Rattle.std.specs.List.{list_any, list_all, range_with_len, All}
+use Rattle.std.proofs.Common.{◌≡◌, ℕ, zero, suc, ◌+◌, ◌<◌, ◌≤◌, Bool, true, false, not, cond, ◌&&◌, ◌||◌, List, [], ◌∷◌, length, refl, sym, ap, subst, ◌∙◌, ⊎_elim, arith, slice_index, slice_index_or}
+use Rattle.std.specs.Prelude.{◌==◌, nat_lt, filter, Option, Some, None, is_some, IfSome}
+use Rattle.std.specs.List.{list_all, range_with_len, All}
 use Rattle.std.specs.List.Sorted.{IsStrictlyIncreasing}
 use Rattle.std.proofs.lemmas.List.Kept.{IsStrictlyIncreasing-filter}
 use Rattle.std.proofs.lemmas.List.Elements.{All-nil, All-cons}
-use Rattle.std.proofs.lemmas.Bool.{and_parts, and_from, or_cases, eqb-true, false≢true, cases_Bool, ltb-true}
+use Rattle.std.proofs.lemmas.Bool.{and_parts, or_cases, eqb-true, false≢true, cases_Bool, ltb-true}
 use Rattle.spoc_base.specs.declared.ids.IfId.{IfId}
 use Rattle.policy_model.specs.Lists.{has, numbers_below, is_nothing}
 use Rattle.policy_model.specs.Policy.{Policy, Area, no_area, area_of, router_at, is_managed}
-use Rattle.policy_model.specs.Paths.{Crossing, Reaches, leads, crosses_managed}
+use Rattle.policy_model.specs.Paths.{Crossing, leads, crosses_managed}
 use Rattle.policy_model.specs.Zones.{Site, zone_at, zone_of}
 use Rattle.policy_model.specs.Objects.{IsInArea, inside_borders, start_of}
 use Rattle.topology.specs.Sound.{IsSound, are_below}

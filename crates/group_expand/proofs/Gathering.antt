@@ -1,20 +1,20 @@
 -- Sets that are gathered in loops.
-use Rattle.std.proofs.Common.{◌≡◌, ◌≢◌, ℕ, zero, suc, ◌+◌, ◌-◌, ◌<◌, ◌≤◌, Bool, true, false, cond, not, ◌&&◌, ◌||◌, eqb, List, [], ◌∷◌, ◌++◌, length, map, flat_map, drop, refl, sym, ap, subst, ◌∙◌, ⊎_elim, append_assoc, append-nil, arith, slice_index, slice_index_or}
+use Rattle.std.proofs.Common.{◌≡◌, ℕ, zero, suc, ◌+◌, ◌-◌, ◌<◌, Bool, true, false, cond, not, ◌||◌, List, [], ◌∷◌, ◌++◌, length, map, flat_map, drop, refl, sym, ap, subst, ◌∙◌, ⊎_elim, append_assoc, append-nil, arith, slice_index, slice_index_or}
 use Rattle.std.specs.Prelude.{filter, Option, ◌==◌}
-use Rattle.std.specs.List.{list_any, list_all, range_with_len}
-use Rattle.std.proofs.lemmas.Bool.{eq-eqb, eqb-true, ne_eqb, cases_Bool, cases_eq, false≢true, or_cases, or_left, or_right, and_parts, and_from, lt-ltb}
+use Rattle.std.specs.List.{list_all, range_with_len}
+use Rattle.std.proofs.lemmas.Bool.{eqb-true, false≢true, or_cases}
 use Rattle.std.proofs.lemmas.List.{map-append}
 use Rattle.std.proofs.lemmas.List.Folds.{list_any-append}
 use Rattle.std.proofs.lemmas.List.Elements.{filter-append, filter_agree}
-use Rattle.std.proofs.Math.ListN.{get_or-map, length-map}
+use Rattle.std.proofs.Math.ListN.{length-map}
 use Rattle.spoc_base.specs.Address.{Cidr}
 use Rattle.policy_model.specs.Lists.{has, numbers_below}
-use Rattle.policy_model.specs.Policy.{Policy, all_nets}
+use Rattle.policy_model.specs.Policy.{all_nets}
 use Rattle.policy_model.specs.Zones.{Site, zone_of, nets_in}
-use Rattle.policy_model.specs.Objects.{Object, NetObject, HostObject, same_object, has_object, object_set, zone_nets, is_asked, area_nets, area_zones}
+use Rattle.policy_model.specs.Objects.{Object, NetObject, same_object, has_object, object_set, zone_nets, is_asked, area_nets, area_zones}
 use Rattle.policy_model.proofs.Numbers.{filter_left}
 use Rattle.group_expand.specs.Sets.{with_object, with_objects, zone_objects, AreIn, narrowed_by}
-use Rattle.group_expand.proofs.SetLaws.{same_true, same_refl, gathered, grown_by_both, keeps_all, has_added, adds_nothing}
+use Rattle.group_expand.proofs.SetLaws.{same_true, gathered, grown_by_both, keeps_all, has_added, adds_nothing}
 use Rattle.group_expand.proofs.Rows.{passed}
 use Rattle.group_expand.proofs.Loops.{left_at}
 
@@ -108,6 +108,7 @@ pushed_net test i n old new all h e so_far =
   where
     rest : List ℕ
     rest = filter test (range_with_len (i + 1) (n - (i + 1)))
+
     by : (b : Bool) → cond b (old ++ NetObject i ∷ []) old ++ map NetObject rest ≡ old ++ map NetObject (cond b (i ∷ rest) rest)
     by true = append_assoc old (NetObject i ∷ []) (map NetObject rest)
     by false = refl
@@ -132,10 +133,12 @@ has_more acc x o = by (has_object acc x) refl
     or_false true b = refl
     or_false false true = refl
     or_false false false = refl
+
     or_absorbs : (a b : Bool) → (b ≡ true → a ≡ true) → a ≡ (a || b)
     or_absorbs true b f = refl
     or_absorbs false true f = f refl
     or_absorbs false false f = refl
+
     by : (b : Bool) → has_object acc x ≡ b → has_object (with_object acc x) o ≡ (has_object acc o || same_object o x)
     by true e =
         ap (λ (b : Bool). has_object (cond b acc (acc ++ x ∷ [])) o) e

@@ -1,12 +1,12 @@
 -- The sets of groups are made one after another, each after those that it names.
-use Rattle.std.proofs.Common.{◌≡◌, ◌≢◌, ℕ, zero, suc, ◌+◌, ◌<◌, ◌≤◌, Bool, true, false, cond, not, ◌&&◌, ◌||◌, List, [], ◌∷◌, ◌++◌, length, map, set, refl, sym, ap, subst, ◌∙◌, ⊎_elim, arith, slice_index_or, flat_map}
+use Rattle.std.proofs.Common.{◌≡◌, ℕ, zero, suc, ◌+◌, ◌<◌, ◌≤◌, Bool, true, false, not, ◌&&◌, List, [], ◌∷◌, ◌++◌, length, map, set, refl, sym, ap, subst, ◌∙◌, ⊎_elim, arith, slice_index_or, flat_map}
 use Rattle.std.specs.Prelude.{filter, nat_lt, ◌==◌, Vec}
-use Rattle.std.specs.List.{list_any, list_all}
-use Rattle.std.proofs.lemmas.Bool.{and_parts, and_from, ltb-true, ltb-false, lt-ltb, false≢true, cases_Bool, cases_eq, eq-eqb, eqb-true, or_cases, or_left, or_right, not-true, or_parts, or_from}
-use Rattle.std.proofs.lemmas.List.{get_or-set_same, get_or-set_other, length-set, map-set, length-map}
+use Rattle.std.specs.List.{list_any}
+use Rattle.std.proofs.lemmas.Bool.{and_parts, and_from, ltb-true, ltb-false, lt-ltb, false≢true, cases_Bool, cases_eq, eq-eqb, eqb-true, or_cases, or_left, or_right, not-true, or_parts}
+use Rattle.std.proofs.lemmas.List.{get_or-set_same, get_or-set_other, length-set, map-set}
 use Rattle.std.proofs.lemmas.List.Folds.{list_any-append}
 use Rattle.policy_model.specs.Lists.{has}
-use Rattle.policy_model.specs.Policy.{Policy, ObjectExpr, NoObjects, OneNet, OneHost, OneIface, OfGroup, OfAggregate, OfArea, OfUser, NetsOf, HostsOf, ZonesOf, Joined, Common, Without, group_of, no_group, is_managed, router_at, iface_of}
+use Rattle.policy_model.specs.Policy.{Policy, ObjectExpr, NoObjects, OneNet, OneHost, OneIface, OfGroup, OfAggregate, OfArea, OfUser, NetsOf, HostsOf, ZonesOf, Joined, Common, Without, group_of, no_group}
 use Rattle.policy_model.specs.Zones.{Site}
 use Rattle.policy_model.specs.Objects.{Object, NetObject, objects_by, group_objects, object_set, has_object, net_of_object, hosts_of_object, zone_nets}
 use Rattle.topology.specs.Sound.{IsSound, is_sound_expr, groups_in, is_chain}
@@ -14,7 +14,7 @@ use Rattle.group_expand.specs.declared.object.Object as code
 use Rattle.group_expand.specs.Sets.{object_seen, rows_seen, group_set, are_there}
 use Rattle.group_expand.specs.Spread.{marked, unmarked_count, Grows, AreUnmarked}
 use Rattle.group_expand.specs.Groups.{waits, AreFilled, HasChain, HaveChains}
-use Rattle.group_expand.proofs.Marks.{set_grows, set_marks, set_only, set_once, marked_below}
+use Rattle.group_expand.proofs.Marks.{set_only, set_once}
 use Rattle.group_expand.proofs.SoundSets.{objects_there}
 
 -- ---- soundness in any place
@@ -242,6 +242,7 @@ groups_there s areas sound each (suc depth) g =
     past [] (suc g) h = refl
     past (x ∷ xs) zero h = absurd (omega (arith, h))
     past (x ∷ xs) (suc g) h = past xs g (omega (arith, h))
+
     sound_group : (g : ℕ) → is_sound_expr s.policy true true (group_of s.policy g).objects ≡ true
     sound_group g =
         ⊎_elim (λ h. group_sound s.policy g sound (ltb-true g (length s.policy.groups) h))

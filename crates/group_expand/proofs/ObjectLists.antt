@@ -1,16 +1,12 @@
 -- Lists of objects, and tests that agree on them.
 use Rattle.policy_model.specs.Policy.{Policy}
-use Rattle.std.proofs.Common.{◌≡◌, ◌≢◌, ℕ, zero, suc, ◌+◌, ◌<◌, drop, length, slice_index_or, arith, Bool, true, false, cond, not, ◌&&◌, ◌||◌, eqb, List, [], ◌∷◌, ◌++◌, map, refl, sym, ap, subst, ◌∙◌, ⊎_elim, append_assoc, append-nil}
-use Rattle.std.specs.Prelude.{filter}
-use Rattle.std.specs.List.{list_any, list_all}
-use Rattle.std.proofs.lemmas.Bool.{eq-eqb, eqb-true, cases_Bool, false≢true, or_cases, or_left, or_right, and_parts}
+use Rattle.std.proofs.Common.{◌≡◌, ℕ, zero, suc, ◌+◌, ◌<◌, drop, length, arith, Bool, true, false, cond, ◌||◌, List, [], ◌∷◌, ◌++◌, map, refl, ap, ◌∙◌}
+use Rattle.std.specs.List.{list_any}
+use Rattle.std.proofs.lemmas.Bool.{and_parts}
 use Rattle.std.proofs.lemmas.List.{map-append}
-use Rattle.policy_model.specs.Objects as plain
-use Rattle.policy_model.specs.Objects.{NetObject, HostObject, IfaceObject, same_object, has_object, object_set}
-use Rattle.policy_model.specs.Lists.{once_each}
+use Rattle.policy_model.specs.Objects.{same_object, has_object}
 use Rattle.group_expand.specs.declared.object.Object.{Object}
-use Rattle.group_expand.specs.declared.object.Object.TheVariants as object
-use Rattle.group_expand.specs.Sets.{object_seen, with_object, with_objects, is_there, are_there}
+use Rattle.group_expand.specs.Sets.{object_seen, with_object, is_there, are_there}
 
 module _ (eq : Object → Object → Bool) (same : (x y : Object) → eq x y ≡ same_object (object_seen x) (object_seen y)) where
   pub any_seen : (o : Object) (ks : List Object) → list_any (eq o) ks ≡ has_object (map object_seen ks) (object_seen o)

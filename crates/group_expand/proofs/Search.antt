@@ -1,7 +1,7 @@
 -- How a search goes on.
-use Rattle.std.proofs.Common.{◌≡◌, ◌≢◌, ℕ, zero, suc, ◌+◌, ◌<◌, Bool, true, false, not, cond, ◌&&◌, ◌||◌, eqb, List, [], ◌∷◌, ◌++◌, length, set, refl, sym, ap, subst, ◌∙◌, ⊎_elim, arith, drop, ◌≤◌}
+use Rattle.std.proofs.Common.{◌≡◌, ◌≢◌, ℕ, ◌+◌, ◌<◌, Bool, true, false, not, cond, ◌&&◌, ◌||◌, List, [], ◌∷◌, ◌++◌, length, set, refl, sym, ap, subst, ◌∙◌, ⊎_elim, arith, drop, ◌≤◌}
 use Rattle.std.specs.Prelude.{◌==◌, ◌↔◌, nat_lt, filter, slice_index}
-use Rattle.std.specs.List.{list_all, list_any}
+use Rattle.std.specs.List.{list_all}
 use Rattle.std.proofs.lemmas.Bool.{and_parts, and_from, cases_eq, cases_Bool, eq-eqb, ne_eqb, eqb-true, false≢true, lt-ltb}
 use Rattle.std.proofs.lemmas.List.{length-append}
 use Rattle.policy_model.specs.Lists.{has, numbers_below}
@@ -9,7 +9,7 @@ use Rattle.policy_model.proofs.Tested.{Reaches-stays, crossing_below}
 use Rattle.policy_model.specs.Policy.{Policy, router_at, is_managed}
 use Rattle.policy_model.specs.Paths.{Crossing, Reaches, leads, is_through_router, crosses_managed}
 use Rattle.policy_model.specs.Zones.{Site, zone_at}
-use Rattle.group_expand.specs.Spread.{marked, unmarked_count, Grows, IsSearch, Goes, GoesBy, Spreads, SeesRouter, SeesRow, is_open, inside_marks}
+use Rattle.group_expand.specs.Spread.{marked, Grows, IsSearch, Goes, GoesBy, Spreads, SeesRouter, SeesRow, is_open, inside_marks}
 use Rattle.group_expand.proofs.Rows.{standing, left_of, none_left}
 use Rattle.group_expand.proofs.Marks.{set_grows, set_marks, set_only, set_again, set_once, has_front, has_end, has_either, has_not}
 
@@ -91,17 +91,17 @@ module _ (s : Site) (marks : List Bool) where
         grows = set_grows seen z there;
         work = let one = set_once seen z there none in let long = length-append left (z ∷ []) in omega (arith, one, long);
         keeps = λ start at old. record {
-              sound = λ n h. ⊎_elim
-                  (λ e. subst (λ (k : ℕ). Spreads s marks start k) (sym (e ∙ is))
-                  (reaches_further (inside_marks p marks) (zone_at s) start (zone_at s i) (record { enter = i; leave = j }) (old.sound (zone_at s i) at) crossing refl))
-                  (λ ne. old.sound n (set_only seen z n ne h)) (cases_eq n z);
-              started = set_grows seen z there start old.started;
-              queued = λ n h. ⊎_elim (λ e. subst (λ (k : ℕ). marked (set seen z true) k ≡ true) (sym e) (set_marks seen z there))
-                  (λ ne. set_grows seen z there n (old.queued n (has_either left z n h ne))) (cases_eq n z);
-              behind = λ j hj o q. set_grows seen z there (zone_at s j) (old.behind j hj o q);
-              pending = λ k hk o h l a. ⊎_elim (λ e. absurd (false≢true (sym l ∙ subst (λ (x : ℕ). has (left ++ z ∷ []) x ≡ true) (sym e) (has_end left z))))
-                  (λ ne. old.pending k hk o (set_only seen z (zone_at s k) ne h) (has_not left z (zone_at s k) l) a) (cases_eq (zone_at s k) z);
-            };
+          sound = λ n h. ⊎_elim
+              (λ e. subst (λ (k : ℕ). Spreads s marks start k) (sym (e ∙ is))
+              (reaches_further (inside_marks p marks) (zone_at s) start (zone_at s i) (record { enter = i; leave = j }) (old.sound (zone_at s i) at) crossing refl))
+              (λ ne. old.sound n (set_only seen z n ne h)) (cases_eq n z);
+          started = set_grows seen z there start old.started;
+          queued = λ n h. ⊎_elim (λ e. subst (λ (k : ℕ). marked (set seen z true) k ≡ true) (sym e) (set_marks seen z there))
+              (λ ne. set_grows seen z there n (old.queued n (has_either left z n h ne))) (cases_eq n z);
+          behind = λ j hj o q. set_grows seen z there (zone_at s j) (old.behind j hj o q);
+          pending = λ k hk o h l a. ⊎_elim (λ e. absurd (false≢true (sym l ∙ subst (λ (x : ℕ). has (left ++ z ∷ []) x ≡ true) (sym e) (has_end left z))))
+              (λ ne. old.pending k hk o (set_only seen z (zone_at s k) ne h) (has_not left z (zone_at s k) l) a) (cases_eq (zone_at s k) z);
+        };
       }))
 
   pub visited : (i j z : ℕ) (seen new : List Bool) (left more : List ℕ) → z < length seen → new ≡ set seen z true → more ≡ cond (marked seen z) left (left ++ z ∷ []) →

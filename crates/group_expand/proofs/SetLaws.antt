@@ -1,8 +1,8 @@
 -- Sets of objects that grow one by one are the sets of the definitions.
-use Rattle.std.proofs.Common.{◌≡◌, ℕ, Bool, true, false, cond, not, ◌&&◌, ◌||◌, eqb, List, [], ◌∷◌, ◌++◌, map, refl, sym, ap, subst, ◌∙◌, ⊎_elim, append_assoc, append-nil}
+use Rattle.std.proofs.Common.{◌≡◌, Bool, true, false, cond, not, ◌&&◌, ◌||◌, List, [], ◌∷◌, ◌++◌, refl, sym, ap, subst, ◌∙◌, append_assoc, append-nil}
 use Rattle.std.specs.Prelude.{filter}
-use Rattle.std.specs.List.{list_any, list_all}
-use Rattle.std.proofs.lemmas.Bool.{eq-eqb, eqb-true, cases_Bool, false≢true, or_cases, or_left, or_right, and_parts, and_from}
+use Rattle.std.specs.List.{list_all}
+use Rattle.std.proofs.lemmas.Bool.{eq-eqb, eqb-true, false≢true, or_left, or_right, and_parts, and_from}
 use Rattle.std.proofs.lemmas.List.Folds.{list_any-append}
 use Rattle.policy_model.specs.Objects.{Object, NetObject, HostObject, IfaceObject, same_object, has_object, object_set}
 use Rattle.group_expand.specs.Sets.{with_object, with_objects}
@@ -134,8 +134,8 @@ grown acc (x ∷ xs) = by (grown acc xs) (grown (acc ++ x ∷ []) xs) (has_objec
         ∙ (g
         ∙ (append_assoc acc (x ∷ []) (filter (missing (acc ++ x ∷ [])) (object_set xs))
         ∙ ap (λ (l : List Object). acc ++ l)
-            (ap (λ (l : List Object). x ∷ l) (sym (filter_twice (missing acc) (others x) (missing (acc ++ x ∷ [])) (missing_more acc x) (object_set xs)))
-            ∙ sym (ap (λ (b : Bool). cond (not b) (x ∷ filter (missing acc) (filter (others x) (object_set xs))) (filter (missing acc) (filter (others x) (object_set xs)))) e))))
+        (ap (λ (l : List Object). x ∷ l) (sym (filter_twice (missing acc) (others x) (missing (acc ++ x ∷ [])) (missing_more acc x) (object_set xs)))
+        ∙ sym (ap (λ (b : Bool). cond (not b) (x ∷ filter (missing acc) (filter (others x) (object_set xs))) (filter (missing acc) (filter (others x) (object_set xs)))) e))))
 
 pub grown_by_set : (acc xs : List Object) → with_objects acc (object_set xs) ≡ with_objects acc xs
 grown_by_set acc xs = grown acc (object_set xs) ∙ (ap (λ (l : List Object). acc ++ filter (missing acc) l) (set_of_set xs) ∙ sym (grown acc xs))

@@ -1,14 +1,14 @@
 -- What a sound expression names is there.
-use Rattle.std.proofs.Common.{◌≡◌, ℕ, zero, suc, ◌+◌, ◌<◌, Bool, true, false, cond, not, ◌&&◌, List, [], ◌∷◌, ◌++◌, length, map, flat_map, refl, sym, ap, subst, ◌∙◌, arith}
+use Rattle.std.proofs.Common.{◌≡◌, ℕ, zero, suc, ◌+◌, Bool, true, false, cond, not, List, [], ◌∷◌, ◌++◌, length, map, flat_map, refl, sym, subst, arith}
 use Rattle.std.specs.Prelude.{filter, nat_lt, ◌==◌, Option, is_some, ◌||◌}
-use Rattle.std.specs.List.{list_all, list_any, range_with_len}
-use Rattle.std.proofs.lemmas.Bool.{and_parts, and_from, ltb-true, lt-ltb, false≢true}
+use Rattle.std.specs.List.{list_all, range_with_len}
+use Rattle.std.proofs.lemmas.Bool.{and_parts, and_from, ltb-true, lt-ltb}
 use Rattle.spoc_base.specs.Address.{Cidr}
 use Rattle.policy_model.specs.Lists.{has, numbers_below, once_each}
-use Rattle.policy_model.specs.Policy.{Policy, ObjectExpr, NoObjects, OneNet, OneHost, OneIface, OfGroup, OfAggregate, OfArea, OfUser, NetsOf, HostsOf, ZonesOf, Joined, Common, Without, host_of, net_at, router_at, iface_of, is_managed, aggregate_of, all_nets, all_hosts}
+use Rattle.policy_model.specs.Policy.{Policy, ObjectExpr, NoObjects, OneNet, OneHost, OneIface, OfGroup, OfAggregate, OfArea, OfUser, NetsOf, HostsOf, ZonesOf, Joined, Common, Without, host_of, net_at, router_at, iface_of, is_managed, aggregate_of, all_hosts}
 use Rattle.policy_model.specs.Zones.{Site, zone_of, nets_in}
 use Rattle.policy_model.specs.Objects.{Object, NetObject, HostObject, IfaceObject, same_object, has_object, object_set, net_of_object, hosts_of_object, is_asked, zone_nets, area_nets, area_zones, objects_by}
-use Rattle.topology.specs.Sound.{IsSound, is_sound_expr, groups_in}
+use Rattle.topology.specs.Sound.{IsSound, is_sound_expr}
 use Rattle.topology.specs.View.{policy_of}
 use Rattle.group_expand.specs.declared.object.Object as code
 use Rattle.group_expand.specs.declared.scope.Scope.{Scope}

@@ -1,5 +1,5 @@
 -- The first area that is split, and how it is told.
-use Rattle.std.proofs.Common.{◌≡◌, ℕ, zero, suc, ◌+◌, ◌<◌, ◌≤◌, Bool, true, false, not, ◌&&◌, ◌||◌, List, [], ◌∷◌, ◌++◌, length, refl, sym, ap, subst, ◌∙◌, ⊎_elim, arith, slice_index_or}
+use Rattle.std.proofs.Common.{◌≡◌, ℕ, ◌+◌, ◌<◌, Bool, true, false, not, ◌&&◌, ◌||◌, List, [], ◌∷◌, ◌++◌, length, refl, sym, ap, subst, ◌∙◌, ⊎_elim, arith, slice_index_or}
 use Rattle.std.specs.Prelude.{◌==◌, nat_lt, IsTrue}
 use Rattle.std.proofs.lemmas.Bool.{cases_Bool, cases_eq, false≢true, ltb-true, eqb-true, or_cases, and_parts}
 use Rattle.std.proofs.lemmas.List.{get_or_append_left, length-append, map-append}
@@ -7,7 +7,6 @@ use Rattle.std.proofs.Math.Seq.{get_or-append_seam}
 use Rattle.spoc_base.specs.declared.place.Source.{Source}
 use Rattle.spoc_base.specs.declared.place.Kind.{Kind}
 use Rattle.spoc_base.specs.declared.place.Named.{Named}
-use Rattle.spoc_base.specs.declared.place.Named.TheVariants.{Plain}
 use Rattle.spoc_base.specs.declared.fault.Fault.{Fault}
 use Rattle.policy_model.specs.Lists.{has}
 use Rattle.policy_model.specs.Policy.{Policy, area_of, router_of, net_of, router_at, net_at}
@@ -17,7 +16,7 @@ use Rattle.policy_model.specs.Headline.{Meaning, permits_in}
 use Rattle.policy_model.specs.FirstFault.{FaultCase, AreaSplit, NatConflict, NatTwice, NatInside, LimitViews, SamePrefix, HostShadowed, IfaceShadowed, ManagedEnd, LimitPermits, NoPath, HiddenEnd, LimitLines, LimitRoutes, NoHopAddress, AmbiguousHop, HasFault, is_lower, order_of}
 use Rattle.topology.specs.First.{IsWithin, TellsFirst}
 use Rattle.topology.specs.Told.{IsTold, IsNameOf}
-use Rattle.topology.specs.Texts.{IsCalled, IsIfaceCalled, name_at, text_at, name_span}
+use Rattle.topology.specs.Texts.{IsCalled, IsIfaceCalled, name_at}
 use Rattle.group_expand.specs.Areas.{IsAreaRow, IsFirst, is_cut_off, AreFirstRows, AreWhole}
 use Rattle.group_expand.proofs.SetLaws.{same_bool}
 use Rattle.std.specs.Prelude.{Vec}
@@ -67,6 +66,7 @@ row_more s rows new row k e is whole old =
   where
     at_end : (j : ℕ) → j ≡ k → slice_index_or (rows ++ row ∷ []) j [] ≡ row
     at_end j same = ap (λ (x : ℕ). slice_index_or (rows ++ row ∷ []) x []) (same ∙ sym old.each) ∙ get_or-append_seam rows row [] []
+
     at_front : (j : ℕ) → j < k → slice_index_or (rows ++ row ∷ []) j [] ≡ slice_index_or rows j []
     at_front j below = get_or_append_left rows (row ∷ []) [] j (omega (arith, below, old.each))
 

@@ -1,5 +1,5 @@
 -- The tables of hosts and groups.
-use Rattle.std.proofs.Common.{◌≡◌, ◌∙◌, ℕ, ◌+◌, ◌<◌, ◌≤◌, Bool, true, List, [], ◌∷◌, length, map, refl, sym, ap, subst, arith}
+use Rattle.std.proofs.Common.{◌≡◌, ◌∙◌, ℕ, ◌<◌, ◌≤◌, Bool, true, List, [], ◌∷◌, length, map, refl, sym, ap, arith}
 use Rattle.std.specs.Prelude.{Vec}
 use Rattle.std.proofs.lemmas.List.{length-map}
 use Rattle.spoc_base.specs.declared.ids.HostId.{HostId}
@@ -11,7 +11,7 @@ use Rattle.zone_graph.specs.Grouped.{HasGroups, row_items}
 use Rattle.group_expand.specs.Sets.{Tables, AreTables, AreHosts, host_rows, hosts_below, group_set, are_there, rows_seen, object_seen}
 use Rattle.group_expand.specs.declared.object.Object as code
 use Rattle.group_expand.specs.Groups.{AreFilled}
-use Rattle.group_expand.specs.Spread.{marked, unmarked_count}
+use Rattle.group_expand.specs.Spread.{marked}
 use Rattle.group_expand.proofs.RowFilling.{as_numbers}
 use Rattle.group_expand.proofs.GroupOrder.{same_objects, named_there, groups_there}
 use Rattle.std.proofs.lemmas.Bool.{cases_lt}

@@ -1,11 +1,10 @@
 -- The objects of a union, part by part.
-use Rattle.std.proofs.Common.{◌≡◌, ◌∙◌, ◌+◌, ◌<◌, drop, length, slice_index_or, refl, sym, ap, subst, Bool, true, false, cond, not, ◌&&◌, ℕ, List, [], ◌∷◌, ◌++◌, map}
+use Rattle.std.proofs.Common.{◌≡◌, ◌∙◌, ◌+◌, ◌<◌, drop, length, slice_index_or, refl, sym, ap, Bool, true, false, ◌&&◌, ℕ, List, [], ◌∷◌, ◌++◌, map}
 use Rattle.group_expand.proofs.Loops.{left_at}
-use Rattle.std.specs.Prelude.{filter}
 use Rattle.std.specs.List.{list_all}
-use Rattle.std.proofs.lemmas.Bool.{and_parts, and_from}
-use Rattle.policy_model.specs.Policy.{Policy, ObjectExpr, NoObjects, Joined, Common, Without}
-use Rattle.policy_model.specs.Objects.{Object, object_set, has_object}
+use Rattle.std.proofs.lemmas.Bool.{and_parts}
+use Rattle.policy_model.specs.Policy.{Policy, ObjectExpr}
+use Rattle.policy_model.specs.Objects.{Object, object_set}
 use Rattle.topology.specs.declared.sets.Union.{Union, out-Union}
 use Rattle.topology.specs.declared.sets.Inter.{Inter, out-Inter}
 use Rattle.topology.specs.declared.sets.Further.{Further}

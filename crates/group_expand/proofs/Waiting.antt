@@ -1,8 +1,8 @@
 -- Whether an expression names a group that isn't done, by its parts.
-use Rattle.std.proofs.Common.{◌≡◌, ◌∙◌, refl, sym, ap, Bool, true, false, not, ◌||◌, ℕ, List, [], ◌∷◌, ◌++◌, map}
+use Rattle.std.proofs.Common.{◌≡◌, ◌∙◌, refl, ap, Bool, true, false, not, ◌||◌, ℕ, List, [], ◌∷◌, map}
 use Rattle.std.specs.List.{list_any}
 use Rattle.std.proofs.lemmas.List.Folds.{list_any-append}
-use Rattle.policy_model.specs.Policy.{ObjectExpr, NoObjects, OfGroup, Joined, Common, Without}
+use Rattle.policy_model.specs.Policy.{ObjectExpr, OfGroup, Joined}
 use Rattle.topology.specs.declared.sets.Union.{Union, out-Union}
 use Rattle.topology.specs.declared.sets.Inter.{Inter, out-Inter}
 use Rattle.topology.specs.declared.sets.Further.{Further}

@@ -8,7 +8,7 @@ use Rattle.policy_model.specs.Objects.{AreAreas, IsInArea}
 use Rattle.policy_model.specs.Faults.{is_split}
 use Rattle.policy_model.specs.Headline.{Meaning}
 use Rattle.topology.specs.First.{TellsFirst}
-use Rattle.topology.specs.View.{policy_of, sources_of}
+use Rattle.topology.specs.View.{sources_of}
 use Rattle.topology.specs.declared.topo.Topo.{Topo}
 use Rattle.spoc_base.specs.declared.fault.Fault.{Fault}
 use Rattle.group_expand.specs.Spread.{marked}

@@ -1,7 +1,7 @@
 -- The sets of groups, each made after those of the groups that it names.
-use Rattle.std.specs.Prelude.{◌≡◌, ℕ, ◌+◌, ◌<◌, ◌≤◌, Bool, true, false, not, List, [], ◌∷◌, length, slice_index_or}
+use Rattle.std.specs.Prelude.{◌≡◌, ℕ, ◌+◌, ◌<◌, ◌≤◌, Bool, true, false, not, List, ◌∷◌, length}
 use Rattle.std.specs.List.{list_any}
-use Rattle.policy_model.specs.Policy.{Policy, ObjectExpr, group_of}
+use Rattle.policy_model.specs.Policy.{Policy, ObjectExpr}
 use Rattle.policy_model.specs.Zones.{Site}
 use Rattle.policy_model.specs.Objects as plain
 use Rattle.policy_model.specs.Objects.{group_objects}

@@ -1,5 +1,5 @@
 -- Where the names in sets are looked up.
-use Rattle.std.specs.Prelude.{◌≡◌, ℕ, true, List, [], length, map}
+use Rattle.std.specs.Prelude.{◌≡◌, ℕ, true, List, length, map}
 use Rattle.policy_model.specs.Policy.{ObjectExpr}
 use Rattle.policy_model.specs.Zones.{Site}
 use Rattle.policy_model.specs.Objects as plain

@@ -1,15 +1,13 @@
 -- Sets of objects as they are gathered.
-use Rattle.std.specs.Prelude.{◌≡◌, ℕ, ◌<◌, ◌==◌, ◌||◌, nat_lt, not, true, Bool, if◌then◌else◌, List, [], ◌∷◌, ◌++◌, length, map, filter, Option, IsTrue, Vec, slice_index_or}
+use Rattle.std.specs.Prelude.{◌≡◌, ℕ, ◌<◌, ◌==◌, nat_lt, not, true, Bool, if◌then◌else◌, List, [], ◌∷◌, ◌++◌, length, map, filter, Option, Vec, slice_index_or}
 use Rattle.std.specs.List.{list_all}
 use Rattle.spoc_base.specs.Address.{Cidr}
 use Rattle.spoc_base.specs.declared.ids.HostId.{HostId}
 use Rattle.policy_model.specs.Lists.{has, numbers_below}
-use Rattle.policy_model.specs.Policy.{Policy, ObjectExpr, host_of, all_hosts}
+use Rattle.policy_model.specs.Policy.{Policy, host_of, all_hosts}
 use Rattle.policy_model.specs.Zones.{Site, nets_in}
 use Rattle.policy_model.specs.Objects as plain
 use Rattle.policy_model.specs.Objects.{has_object, is_asked, objects_by, group_objects}
-use Rattle.topology.specs.View.{policy_of}
-use Rattle.zone_graph.specs.Grouped.{IsGraphOf}
 use Rattle.group_expand.specs.declared.object.Object.{Object}
 use Rattle.group_expand.specs.declared.object.Object.TheVariants as object
 

@@ -44,13 +44,7 @@ fn start_zone(topo: Topo<'_>, graph: &ZoneGraph, k: u32) -> ZoneId
 }
 
 // Whether the interface is marked, and its zone isn't.
-fn is_cut(
-    topo: Topo<'_>,
-    graph: &ZoneGraph,
-    marks: &[bool],
-    seen: &[bool],
-    i: IfId,
-) -> bool
+fn is_cut(topo: Topo<'_>, graph: &ZoneGraph, marks: &[bool], seen: &[bool], i: IfId) -> bool
     requires graph { IsGraphOf (policy_of topo) graph.now }
     requires marks { length marks.now ≡ length (policy_of topo).ifaces }
     requires zones { length seen.now ≡ length graph.now.nets }

@@ -119,11 +119,7 @@ fn round(base: &Base<'_>, groups: &mut [Vec<Object>], done: &mut [bool]) -> Resu
 }
 
 // Makes the sets of all groups. Groups nest 64 deep at most.
-fn fill_sets(
-    base: &Base<'_>,
-    groups: &mut [Vec<Object>],
-    done: &mut [bool],
-) -> Result<(), NoMemory>
+fn fill_sets(base: &Base<'_>, groups: &mut [Vec<Object>], done: &mut [bool]) -> Result<(), NoMemory>
     requires base { IsBase base.now }
     requires bare { AreUnmarked done.old (length (policy_of base.now.topo).groups) }
     requires filled { AreFilled (site_at base.now) base.now.areas.now done.old (rows_seen groups.old) }

@@ -168,11 +168,7 @@ pub(crate) fn iface_count(topo: Topo<'_>) -> usize
 }
 
 /// A mark for each of these interfaces, and for no other.
-pub(crate) fn mark(
-    alloc: Global,
-    topo: Topo<'_>,
-    ifaces: &[IfId],
-) -> Result<Vec<bool>, NoMemory>
+pub(crate) fn mark(alloc: Global, topo: Topo<'_>, ifaces: &[IfId]) -> Result<Vec<bool>, NoMemory>
     requires { All (λ i. i.0 < length (policy_of topo).ifaces) ifaces.now }
     ensures { IfOk result (λ marks. AreMarksOf marks.items (length (policy_of topo.entry).ifaces) (iface_numbers ifaces.now)) }
 {

@@ -1,9 +1,8 @@
-use Rattle.std.proofs.Common.{arith, length, ◌≡◌, ◌∙◌, ℕ, List, subst, sym}
+use Rattle.std.proofs.Common.{arith, ℕ, List, subst, sym}
 use Rattle.policy_model.specs.Objects.{AreAreas}
-use Rattle.topology.specs.View.{policy_of}
 use Rattle.group_expand.specs.Areas.{AreFirstRows, TellsSplit}
 use Rattle.group_expand.specs.Seen.{site_of, rows_of, numbers_of}
-use Rattle.group_expand.proofs.Split.{row_more, all_rows, all_whole, told_at, rows_pushed}
+use Rattle.group_expand.proofs.Split.{row_more, all_rows, told_at, rows_pushed}
 use Rattle.group_expand.proofs.area_table.areas.Goals as goal
 
 pub returns-in-Err-clause-split : goal.returns-in-Err-clause-split

@@ -1,6 +1,5 @@
-use Rattle.std.proofs.Common.{sym, subst, ap, List, ℕ, length}
+use Rattle.std.proofs.Common.{ap}
 use Rattle.topology.specs.View.{policy_of}
-use Rattle.group_expand.specs.Spread.{AreMarksOf}
 use Rattle.group_expand.proofs.AreaRows.{borders_there}
 use Rattle.group_expand.proofs.border.border_marks.Goals as goal
 

@@ -1,5 +1,4 @@
-use Rattle.std.proofs.Common.{◌≡◌, ◌∙◌, ℕ, List, true, length, map, ap, sym, subst, arith}
-use Rattle.std.proofs.lemmas.List.{length-map}
+use Rattle.std.proofs.Common.{◌≡◌, ◌∙◌, List, true, length, map, ap, sym, subst}
 use Rattle.policy_model.specs.Objects as plain
 use Rattle.policy_model.specs.Objects.{objects_by, objects_of}
 use Rattle.topology.specs.Expressions.{expr_of}

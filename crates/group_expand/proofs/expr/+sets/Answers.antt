@@ -1,10 +1,10 @@
-use Rattle.std.proofs.Common.{◌≡◌, ◌∙◌, map, drop, true, List, length, refl, ap, rules}
-use Rattle.topology.specs.Expressions.{expr_of, part_of, term_of}
+use Rattle.std.proofs.Common.{◌≡◌, ◌∙◌, map, refl, ap, rules}
+use Rattle.topology.specs.Expressions.{expr_of}
 use Rattle.topology.specs.View.{policy_of}
 use Rattle.topology.specs.declared.sets.Union.{out-Union}
 use Rattle.topology.specs.declared.sets.Inter.{out-Inter}
 use Rattle.group_expand.specs.Scope.{objects_in}
-use Rattle.group_expand.specs.Sets.{object_seen, with_objects}
+use Rattle.group_expand.specs.Sets.{object_seen}
 use Rattle.group_expand.proofs.Loops.{if_ok, items_end}
 use Rattle.group_expand.proofs.UnionSets.{first_sound, next_term_sound, parts_left_sound, parts_on, objects_to_come}
 use Rattle.topology.specs.declared.sets.Term.TheViews.{the_lemmas}
@@ -15,13 +15,13 @@ of_part-of_term-requires t c = (search (rules, the_lemmas), (c.requires.scope, f
 
 pub of_part-of_term-requires-in-loop-further : goal.of_part-of_term-requires-in-loop-further
 of_part-of_term-requires-in-loop-further t c = (
-    search (rules, the_lemmas),
-    (
-      c.requires.scope,
-      next_term_sound (policy_of c.args.scope.now.topo) (out-Inter c.args.part.now).rest.now c.loop-further.further-index c.further-item.result c.loop-further-test.true c.further-item.is
-          c.loop-further.invariant.0,
-    ),
-  )
+  search (rules, the_lemmas),
+  (
+    c.requires.scope,
+    next_term_sound (policy_of c.args.scope.now.topo) (out-Inter c.args.part.now).rest.now c.loop-further.further-index c.further-item.result c.loop-further-test.true c.further-item.is
+        c.loop-further.invariant.0,
+  ),
+)
 
 pub of_union-loop-part-preserved : goal.of_union-loop-part-preserved
 of_union-loop-part-preserved t c =

@@ -1,4 +1,4 @@
-use Rattle.std.proofs.Common.{◌≡◌, arith, length, ℕ}
+use Rattle.std.proofs.Common.{arith}
 use Rattle.topology.specs.View.{policy_of}
 use Rattle.group_expand.proofs.GroupOrder.{chains_of_one, all_done}
 use Rattle.group_expand.proofs.group_sets.fill_sets.Goals as goal

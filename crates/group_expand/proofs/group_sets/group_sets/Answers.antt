@@ -1,6 +1,5 @@
-use Rattle.std.proofs.Common.{◌≡◌, ◌∙◌, ℕ, Bool, arith, length, List, sym, subst, ap}
+use Rattle.std.proofs.Common.{◌≡◌, ◌∙◌, Bool, length, List, sym, subst, ap}
 use Rattle.std.proofs.lemmas.List.{length-map}
-use Rattle.topology.specs.View.{policy_of}
 use Rattle.group_expand.specs.Groups.{AreFilled}
 use Rattle.group_expand.specs.Seen.{site_of}
 use Rattle.group_expand.specs.Sets.{AreTables, host_rows, rows_seen}

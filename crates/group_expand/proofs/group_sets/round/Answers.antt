@@ -1,7 +1,5 @@
-use Rattle.std.proofs.Common.{◌≡◌, arith, length, ℕ}
+use Rattle.std.proofs.Common.{arith}
 use Rattle.topology.specs.View.{policy_of}
-use Rattle.group_expand.specs.Scope.{site_at}
-use Rattle.group_expand.specs.Sets.{rows_seen}
 use Rattle.group_expand.proofs.GroupOrder.{chains_begin, chains_more, chains_whole, grows_on, grows_none}
 use Rattle.group_expand.proofs.group_sets.round.Goals as goal
 

@@ -1,4 +1,4 @@
-use Rattle.std.proofs.Common.{◌≡◌, ◌∙◌, List, [], true, map, ap, sym, subst}
+use Rattle.std.proofs.Common.{◌≡◌, ◌∙◌, [], true, map, ap, sym, subst}
 use Rattle.policy_model.specs.Policy.{group_of}
 use Rattle.policy_model.specs.Objects.{objects_by}
 use Rattle.topology.specs.Expressions.{expr_of}

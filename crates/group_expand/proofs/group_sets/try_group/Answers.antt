@@ -1,4 +1,4 @@
-use Rattle.std.proofs.Common.{◌≡◌, ◌∙◌, arith, length, ℕ, ap, sym, subst, map, true, false, List, [], refl}
+use Rattle.std.proofs.Common.{◌≡◌, ◌∙◌, ap, sym, subst, map, true, List, [], refl}
 use Rattle.policy_model.specs.Objects as plain
 use Rattle.policy_model.specs.Objects.{objects_by}
 use Rattle.policy_model.specs.Policy.{group_of}

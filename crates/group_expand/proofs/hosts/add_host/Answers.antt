@@ -1,4 +1,4 @@
-use Rattle.std.proofs.Common.{◌<◌, ◌≡◌, ◌∙◌, ℕ, length, subst, sym, ap, arith, refl}
+use Rattle.std.proofs.Common.{◌<◌, length, subst, ap, arith, refl}
 use Rattle.std.specs.Prelude.{◌==◌}
 use Rattle.std.proofs.lemmas.List.{length-map}
 use Rattle.policy_model.specs.Policy.{host_of}

@@ -1,4 +1,4 @@
-use Rattle.std.proofs.Common.{◌≡◌, ◌∙◌, arith, length, List, sym, subst, ap}
+use Rattle.std.proofs.Common.{◌≡◌, ◌∙◌, length, sym, subst, ap}
 use Rattle.std.proofs.lemmas.List.{length-map}
 use Rattle.topology.specs.View.{policy_of}
 use Rattle.group_expand.specs.Sets.{AreHosts, host_rows}

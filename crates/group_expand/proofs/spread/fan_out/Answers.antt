@@ -1,4 +1,4 @@
-use Rattle.std.proofs.Common.{◌≡◌, ◌≤◌, ℕ, ◌∙◌, [], length, refl, sym, ap, arith}
+use Rattle.std.proofs.Common.{◌≡◌, ◌∙◌, [], length, sym, ap, arith}
 use Rattle.std.proofs.lemmas.Bool.{eqb-true}
 use Rattle.std.specs.Prelude.{◌==◌}
 use Rattle.std.proofs.Math.ListN.{length-map}
@@ -40,4 +40,4 @@ returns-clause-seen c =
     let long = length-map row (λ i. i.0) in
     let its : router_at s.policy c.args.i.0 ≡ c.iface.result.router.0 = ap (λ i. i.router) c.iface.ensures.seen in
     λ j hj o same. row_whole s c.args.marks.now c.loop-j.seen (iface_numbers row) c.loop-j.j-index c.iface.result.router.0 c.ifs_of-row.ensures (omega (arith, long, c.loop-j-test.false))
-        c.loop-j.invariant.1 j hj o (same ∙ its)
+    c.loop-j.invariant.1 j hj o (same ∙ its)

@@ -1,5 +1,5 @@
-use Rattle.std.proofs.Common.{◌≡◌, ◌<◌, ◌∙◌, ◌+◌, ℕ, Bool, List, [], ◌∷◌, ◌++◌, cond, false, length, refl, sym, subst, ap, arith, map}
-use Rattle.std.proofs.lemmas.List.{map-append, length-append}
+use Rattle.std.proofs.Common.{◌∙◌, Bool, List, [], ◌∷◌, ◌++◌, cond, length, ap, arith}
+use Rattle.std.proofs.lemmas.List.{map-append}
 use Rattle.spoc_base.specs.declared.ids.ZoneId.{ZoneId}
 use Rattle.std.proofs.lemmas.Bool.{and_from, eq-eqb}
 use Rattle.policy_model.specs.Policy.{router_at, is_managed}

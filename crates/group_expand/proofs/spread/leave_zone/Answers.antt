@@ -1,9 +1,8 @@
-use Rattle.std.proofs.Common.{◌≡◌, ◌≤◌, ◌<◌, ℕ, ◌∙◌, ◌+◌, ◌&&◌, length, sym, subst, ap, arith, drop}
+use Rattle.std.proofs.Common.{◌∙◌, ◌+◌, ◌&&◌, length, arith, drop}
 use Rattle.std.specs.Prelude.{◌==◌, slice_index}
 use Rattle.std.proofs.lemmas.Bool.{eqb-true, and_parts}
 use Rattle.std.proofs.Math.ListN.{length-map}
 use Rattle.policy_model.specs.Policy.{router_at, net_at, is_managed}
-use Rattle.policy_model.specs.Zones.{zone_at}
 use Rattle.topology.specs.View.{policy_of}
 use Rattle.zone_graph.specs.Grouped.{doors_with}
 use Rattle.group_expand.specs.Seen.{site_of, numbers_of, iface_numbers}

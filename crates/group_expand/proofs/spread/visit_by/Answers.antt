@@ -1,4 +1,4 @@
-use Rattle.std.proofs.Common.{◌∙◌, sym, arith}
+use Rattle.std.proofs.Common.{arith}
 use Rattle.group_expand.specs.Seen.{site_of, numbers_of}
 use Rattle.group_expand.proofs.Search.{visited}
 use Rattle.group_expand.proofs.spread.visit_by.Goals as goal

@@ -1,12 +1,12 @@
-use Rattle.std.proofs.Common.{◌≡◌, ◌∙◌, ◌<◌, ℕ, List, map, ap, arith, length, refl}
-use Rattle.std.specs.Prelude.{filter, option_map, ◌==◌, slice_index}
+use Rattle.std.proofs.Common.{◌∙◌, ℕ, List, map, ap, arith, length, refl}
+use Rattle.std.specs.Prelude.{filter, option_map, ◌==◌}
 use Rattle.spoc_base.specs.Shown.{cidr_of}
 use Rattle.spoc_base.specs.declared.ids.NetId.{NetId}
 use Rattle.policy_model.specs.Objects.{NetObject, is_asked}
 use Rattle.policy_model.specs.Zones.{zone_of}
 use Rattle.topology.specs.View.{policy_of}
 use Rattle.group_expand.specs.Scope.{site_in}
-use Rattle.group_expand.specs.Sets.{with_objects, zone_objects}
+use Rattle.group_expand.specs.Sets.{with_objects}
 use Rattle.group_expand.proofs.Loops.{items_end}
 use Rattle.group_expand.proofs.Gathering.{row_below, row_more}
 use Rattle.group_expand.proofs.zone_nets.add_zone.Goals as goal
@@ -20,7 +20,7 @@ pub add_asked-requires : goal.add_asked-requires
 add_asked-requires c =
     let s = site_in c.args.scope.now in
     let low = row_below (λ (n : NetId). n.0) (λ n. zone_of s n == c.args.z.0) (length s.zones) c.nets-row.result.now _ c.nets-row.ensures (c.requires.scope.graph.nets_are c.args.z.0 c.requires.there)
-        c.loop-n.n-index (record { 0 = 0 }) c.loop-n-test.true in
+    c.loop-n.n-index (record { 0 = 0 }) c.loop-n-test.true in
     omega (arith, low, c.requires.scope.graph.table.each)
 
 pub loop-n-preserved : goal.loop-n-preserved

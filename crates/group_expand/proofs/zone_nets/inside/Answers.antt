@@ -1,4 +1,4 @@
-use Rattle.std.proofs.Common.{◌≡◌, ◌∙◌, map, arith, length}
+use Rattle.std.proofs.Common.{map, arith, length}
 use Rattle.policy_model.specs.Lists.{has}
 use Rattle.policy_model.specs.Zones.{zone_of}
 use Rattle.topology.specs.View.{policy_of}
