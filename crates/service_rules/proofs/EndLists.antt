@@ -48,3 +48,15 @@ object_more {A} seen s xs k d old new all h e so_far =
 pub objects_end : {A : Type 0} (seen : A → Object) (s : Site) (xs : List A) (k : ℕ) (found all : List End) → length xs ≤ k → found ++ flat_map (ends_of s) (map seen (drop k xs)) ≡ all → found ≡ all
 objects_end {A} seen s xs k found all h so_far =
     sym (ap (λ (l : List A). found ++ flat_map (ends_of s) (map seen l)) (nothing_left xs k h) ∙ append-nil found) ∙ so_far
+
+-- one network of a row more
+pub nested_on : {T : Type 0} (number : T → ℕ) (p : Policy) (n : ℕ) (row : List T) (k : ℕ) (d : T) (old new all : List End) → k < length row →
+    new ≡ cond (is_nested p n (number (slice_index_or row k d))) (old ++ net_end p (number (slice_index_or row k d)) ∷ []) old → old ++ nested_ends p n (map number (drop k row)) ≡ all →
+    new ++ nested_ends p n (map number (drop (k + 1) row)) ≡ all
+nested_on {T} number p n row k d old new all h e so_far =
+    nested_more p n (number (slice_index_or row k d)) (map number (drop (k + 1) row)) old new e
+    ∙ (ap (λ (l : List T). old ++ nested_ends p n (map number l)) (sym (left_at row k d h)) ∙ so_far)
+
+pub nested_end : {T : Type 0} (number : T → ℕ) (p : Policy) (n : ℕ) (row : List T) (k : ℕ) (found all : List End) → length row ≤ k → found ++ nested_ends p n (map number (drop k row)) ≡ all → found ≡ all
+nested_end {T} number p n row k found all h so_far =
+    sym (ap (λ (l : List T). found ++ nested_ends p n (map number l)) (nothing_left row k h) ∙ append-nil found) ∙ so_far

@@ -3,11 +3,11 @@
 
 mod count;
 mod ends;
-pub mod expand;
+pub mod expansion;
 mod least;
 mod managed;
 mod permits;
 mod scope;
 mod sides;
 
-pub use expand::expand;
+pub use expansion::expand;
