@@ -13,7 +13,7 @@ use Rattle.policy_model.specs.FirstFault.{FaultCase, AreaSplit, NatConflict, Nat
 use Rattle.topology.specs.First.{IsWithin, TellsFirst, HasNone}
 use Rattle.topology.specs.Told.{IsTold}
 use Rattle.group_expand.specs.Areas.{IsFirst}
-use Rattle.service_rules.specs.Least.{NoneBefore, IsEndAt, service_has_end}
+use Rattle.service_rules.specs.Least.{NoneBefore, IsEndAt, IsFirstEnd, service_has_end}
 use Rattle.service_rules.specs.Faults.{AreClear, TellsRule}
 
 -- a fact of zones and areas, at a meaning that has these
@@ -146,3 +146,9 @@ counted_over n most count limit e h = omega (arith, e, h)
 
 pub counted_under : (n most count limit : ℕ) → count ≡ min n most → limit < most → count ≤ limit → n ≤ limit
 counted_under n most count limit e h g = omega (arith, e, h, g)
+
+pub end_at : (s : Site) (areas : List (List ℕ)) (found : Option (ℕ × IfId)) (k : ℕ) (i : IfId) → found ≡ Some (k, i) → IsFirstEnd s areas found → IsEndAt s areas k i
+end_at s areas found k i e is = subst (IsFirstEnd s areas) e is
+
+pub no_end : (s : Site) (areas : List (List ℕ)) (found : Option (ℕ × IfId)) → found ≡ None → IsFirstEnd s areas found → NoneBefore s areas (length s.policy.services)
+no_end s areas found e is = subst (IsFirstEnd s areas) e is

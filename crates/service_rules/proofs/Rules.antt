@@ -117,3 +117,12 @@ pub count_end : {A B : Type 0} (F : List A → List B) (xs : List A) (k most cou
 count_end {A} {B} F xs k most count all none h fits so_far =
     let left = ap (λ (l : List A). length (F l)) (nothing_left xs k h) ∙ ap length none in
     omega (arith, left, fits, so_far)
+
+pub service_sound_at : (p : Policy) (sources : List Source) (services : List Service) (k : ℕ) (x : Service) → k < length services → x ≡ slice_index_or services k x → sound_services p sources services ≡ true →
+    is_sound_service p (service_seen sources x) ≡ true
+service_sound_at p sources services k x h is all = ap (λ (y : Service). is_sound_service p (service_seen sources y)) is ∙ at services k h all
+  where
+    at : (xs : List Service) (k : ℕ) → k < length xs → sound_services p sources xs ≡ true → is_sound_service p (service_seen sources (slice_index_or xs k x)) ≡ true
+    at [] k h all = absurd (omega (arith, h))
+    at (y ∷ ys) zero h all = (and_parts (is_sound_service p (service_seen sources y)) (sound_services p sources ys) all).0
+    at (y ∷ ys) (suc k) h all = at ys k (omega (arith, h)) (and_parts (is_sound_service p (service_seen sources y)) (sound_services p sources ys) all).1

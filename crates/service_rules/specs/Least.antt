@@ -14,6 +14,11 @@ abbrev pub IsLeast : (ℕ → Bool) → Option IfId → Type 0
 IsLeast test None = (i : ℕ) → test i ≡ false
 IsLeast test (Some i) = IsFirst test i.0
 
+-- the interface, where there is one, is below a count
+abbrev pub IsBelow : ℕ → Option IfId → Type 0
+IsBelow count None = Unit {0}
+IsBelow count (Some i) = i.0 < count
+
 -- the interface is of a managed router, and at an end of the rule
 abbrev pub rule_has_end : Site → List (List ℕ) → List Object → Rule → ℕ → Bool
 rule_has_end s areas user rule i = list_any (is_managed_end s.policy i) (objects_of s areas user rule.src ++ objects_of s areas user rule.dst)

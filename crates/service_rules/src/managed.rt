@@ -7,7 +7,7 @@ ghost use Rattle.topology.specs.Seen.{rule_seen, service_seen};
 ghost use Rattle.topology.specs.Sound.{is_sound_rule, is_sound_service};
 ghost use Rattle.topology.specs.View.{policy_of, sources_of};
 ghost use Rattle.group_expand.specs.Sets.{are_there, object_seen};
-ghost use Rattle.service_rules.specs.Least.{IsLeast, IsFirstEnd, rule_has_end};
+ghost use Rattle.service_rules.specs.Least.{IsBelow, IsFirstEnd, IsLeast, rule_has_end};
 ghost use Rattle.service_rules.specs.Scope.{IsScope, site_in};
 
 use crate::least::{least_managed, lesser};
@@ -26,7 +26,8 @@ fn in_rule(
     requires scope { IsScope scope.now }
     requires sound { is_sound_rule (policy_of scope.now.topo) (rule_seen rule.now) ≡ true }
     requires user { are_there (policy_of scope.now.topo) (map object_seen user.now) ≡ true }
-    ensures { IfOk result (IsLeast (rule_has_end (site_in scope.now) scope.now.areas.now (map object_seen user.now) (rule_seen rule.now))) }
+    ensures least { IfOk result (IsLeast (rule_has_end (site_in scope.now) scope.now.areas.now (map object_seen user.now) (rule_seen rule.now))) }
+    ensures there { IfOk result (IsBelow (length (policy_of scope.now.topo).ifaces)) }
 {
     let srcs = side(scope, rule.src, user)?;
     let dsts = side(scope, rule.dst, user)?;
@@ -40,7 +41,8 @@ fn in_rule(
 fn in_service(scope: &Scope<'_>, service: &Service<'_>) -> Result<Option<IfId>, NoMemory>
     requires scope { IsScope scope.now }
     requires sound { is_sound_service (policy_of scope.now.topo) (service_seen (sources_of scope.now.topo) service.now) ≡ true }
-    ensures { IfOk result (IsLeast (has_managed_end (site_in scope.now) scope.now.areas.now (service_seen (sources_of scope.now.topo) service.now))) }
+    ensures least { IfOk result (IsLeast (has_managed_end (site_in scope.now) scope.now.areas.now (service_seen (sources_of scope.now.topo) service.now))) }
+    ensures there { IfOk result (IsBelow (length (policy_of scope.now.topo).ifaces)) }
 {
     let user = user(scope, service.user)?;
     let mut least = None;
