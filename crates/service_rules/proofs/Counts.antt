@@ -1,15 +1,15 @@
 -- Counts that stop at the greatest number.
-use Rattle.std.proofs.Common.{◌≡◌, ◌∙◌, ℕ, zero, suc, ◌+◌, ◌*◌, ◌<◌, ◌≤◌, List, [], ◌∷◌, ◌++◌, map, flat_map, length, refl, sym, ap, arith, ⊎_elim}
+use Rattle.std.proofs.Common.{◌≡◌, ◌∙◌, ℕ, zero, suc, ◌+◌, ◌*◌, ◌<◌, ◌≤◌, List, [], ◌∷◌, map, flat_map, length, sym, ap, arith, ⊎_elim}
 use Rattle.std.specs.Prelude.{min}
 use Rattle.std.proofs.lemmas.List.{length-append, length-map}
 use Rattle.std.proofs.lemmas.Bool.{cases_lt}
 use Rattle.spoc_base.specs.Boxes.{TransportBox}
 use Rattle.policy_model.specs.Objects.{Object}
-use Rattle.policy_model.specs.Permits.{End, Permit, ends_of}
+use Rattle.policy_model.specs.Permits.{End, ends_of}
 use Rattle.policy_model.specs.Zones.{Site}
 use Rattle.permit_set.specs.declared.permit.End as code
 use Rattle.permit_set.specs.Shown.{end_of}
-use Rattle.service_rules.specs.Ends.{all_permits, pair_permits}
+use Rattle.service_rules.specs.Ends.{all_permits}
 
 pub capped_sum : (a b most : ℕ) → min (min a most + min b most) most ≡ min (a + b) most
 capped_sum a b most = omega arith
@@ -21,6 +21,7 @@ capped_product (suc a) b most = ⊎_elim (λ h. high h) (λ h. ap (λ (x : ℕ).
   where
     low : b ≤ most → min b most ≡ b
     low h = omega (arith, h)
+
     high : most < b → min (suc a * min b most) most ≡ min (suc a * b) most
     high h =
         let e : min b most ≡ most = omega (arith, h) in

@@ -1,7 +1,6 @@
 -- Ends and permits that are gathered in loops.
-use Rattle.std.proofs.Common.{◌≡◌, ◌∙◌, ℕ, ◌+◌, ◌<◌, ◌≤◌, length, drop, slice_index_or, Bool, true, false, cond, not, ◌&&◌, List, [], ◌∷◌, ◌++◌, map, flat_map, refl, sym, ap, append_assoc, append-nil}
-use Rattle.std.specs.Prelude.{filter, Option, Some, None, option_to_list}
-use Rattle.std.specs.List.{list_all}
+use Rattle.std.proofs.Common.{◌≡◌, ◌∙◌, ℕ, ◌+◌, ◌<◌, ◌≤◌, length, drop, slice_index_or, Bool, true, false, cond, List, [], ◌∷◌, ◌++◌, map, flat_map, refl, sym, ap, append_assoc, append-nil}
+use Rattle.std.specs.Prelude.{filter}
 use Rattle.policy_model.specs.Policy.{Policy}
 use Rattle.policy_model.specs.Zones.{Site, zone_of, nets_in}
 use Rattle.policy_model.specs.Objects.{Object, NetObject}

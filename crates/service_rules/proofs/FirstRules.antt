@@ -1,5 +1,5 @@
 -- Which fault of the services comes first.
-use Rattle.std.proofs.Common.{◌≡◌, ◌∙◌, ℕ, ◌+◌, ◌<◌, ◌≤◌, Bool, true, false, not, ◌&&◌, ◌||◌, List, [], ◌∷◌, length, refl, sym, ap, subst, ⊎_elim, arith, slice_index_or}
+use Rattle.std.proofs.Common.{◌≡◌, ◌∙◌, ℕ, ◌<◌, ◌≤◌, Bool, true, false, not, ◌&&◌, ◌||◌, List, length, refl, sym, ap, subst, ⊎_elim, arith}
 use Rattle.std.specs.Prelude.{◌==◌, nat_lt, IsTrue, min, Option, Some, None}
 use Rattle.std.proofs.lemmas.Bool.{cases_Bool, false≢true, ltb-true, eqb-true, or_cases, and_parts}
 use Rattle.spoc_base.specs.declared.place.Source.{Source}
@@ -12,7 +12,6 @@ use Rattle.policy_model.specs.Headline.{Meaning, permits_in}
 use Rattle.policy_model.specs.FirstFault.{FaultCase, AreaSplit, NatConflict, NatTwice, NatInside, LimitViews, SamePrefix, HostShadowed, IfaceShadowed, ManagedEnd, LimitPermits, NoPath, HiddenEnd, LimitLines, LimitRoutes, NoHopAddress, AmbiguousHop, HasFault, is_lower, order_of, most_items}
 use Rattle.topology.specs.First.{IsWithin, TellsFirst, HasNone}
 use Rattle.topology.specs.Told.{IsTold}
-use Rattle.group_expand.specs.Areas.{IsFirst}
 use Rattle.service_rules.specs.Least.{NoneBefore, IsEndAt, IsFirstEnd, service_has_end}
 use Rattle.service_rules.specs.Faults.{AreClear, TellsRule}
 

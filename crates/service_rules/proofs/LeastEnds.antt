@@ -1,9 +1,8 @@
 -- The least interface that passes a test.
-use Rattle.std.proofs.Common.{◌≡◌, ◌∙◌, ℕ, ◌<◌, ◌≤◌, Bool, true, false, cond, not, ◌&&◌, ◌||◌, List, [], ◌∷◌, ◌++◌, map, length, refl, sym, ap, subst, ⊎_elim, arith, slice_index_or}
-use Rattle.std.specs.Prelude.{Option, Some, None, is_some, ◌==◌}
-use Rattle.std.specs.Option.{option_map}
-use Rattle.std.specs.List.{list_any, list_all}
-use Rattle.std.proofs.lemmas.Bool.{or_left, or_right, or_from, or_cases, false≢true, cases_Bool, eq-eqb, eqb-true, and_from, ne_eqb, and_parts, false_from_ne_true}
+use Rattle.std.proofs.Common.{◌≡◌, ◌∙◌, ℕ, ◌<◌, ◌≤◌, Bool, true, false, ◌&&◌, ◌||◌, List, [], ◌∷◌, ◌++◌, map, length, refl, sym, ap, subst, ⊎_elim, arith, slice_index_or}
+use Rattle.std.specs.Prelude.{Option, Some, None, ◌==◌}
+use Rattle.std.specs.List.{list_any}
+use Rattle.std.proofs.lemmas.Bool.{or_left, or_right, or_from, or_cases, false≢true, eq-eqb, eqb-true, and_from, ne_eqb, and_parts, false_from_ne_true}
 use Rattle.std.proofs.lemmas.List.Folds.{list_any-append}
 use Rattle.spoc_base.specs.declared.ids.IfId.{IfId}
 use Rattle.group_expand.specs.Areas.{IsFirst}

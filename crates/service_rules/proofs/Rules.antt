@@ -1,22 +1,20 @@
 -- Rules and services that are gone through one by one.
-use Rattle.std.proofs.Common.{◌≡◌, ◌∙◌, ℕ, zero, suc, ◌+◌, ◌<◌, ◌≤◌, Bool, true, false, ◌&&◌, ◌||◌, List, [], ◌∷◌, ◌++◌, length, map, flat_map, drop, refl, sym, ap, subst, arith, append_assoc, append-nil, slice_index_or}
-use Rattle.std.specs.Prelude.{Option, Some, None, min}
-use Rattle.std.specs.List.{list_all, list_any}
-use Rattle.std.proofs.lemmas.Bool.{and_parts, and_from}
+use Rattle.std.proofs.Common.{◌≡◌, ◌∙◌, ℕ, zero, suc, ◌+◌, ◌<◌, ◌≤◌, Bool, true, false, ◌&&◌, ◌||◌, List, [], ◌∷◌, ◌++◌, length, map, flat_map, drop, refl, sym, ap, arith, append_assoc, append-nil, slice_index_or}
+use Rattle.std.specs.Prelude.{min}
+use Rattle.std.specs.List.{list_all}
+use Rattle.std.proofs.lemmas.Bool.{and_parts}
 use Rattle.std.proofs.lemmas.List.{length-append}
 use Rattle.spoc_base.specs.declared.place.Source.{Source}
 use Rattle.policy_model.specs.Policy as plain
 use Rattle.policy_model.specs.Policy.{Policy}
 use Rattle.policy_model.specs.Zones.{Site}
 use Rattle.policy_model.specs.Objects.{Object, objects_of}
-use Rattle.policy_model.specs.Permits.{Permit, rule_permits, service_permits, permits_of, ends_in}
-use Rattle.policy_model.specs.Faults.{has_managed_end}
+use Rattle.policy_model.specs.Permits.{Permit, rule_permits, service_permits, permits_of}
 use Rattle.topology.specs.Seen.{rule_seen, service_seen}
 use Rattle.topology.specs.Sound.{IsSound, is_sound_rule, is_sound_service, is_sound_expr, names_user}
 use Rattle.topology.specs.declared.items.Rule.{Rule}
 use Rattle.topology.specs.declared.items.Service.{Service}
 use Rattle.group_expand.proofs.GroupOrder.{sound_anywhere}
-use Rattle.service_rules.specs.Least.{rule_has_end}
 
 -- ---- soundness
 

@@ -1,8 +1,8 @@
 -- What objects stand for, object by object.
-use Rattle.std.specs.Prelude.{ℕ, Bool, true, not, ◌&&◌, ◌==◌, List, [], ◌∷◌, flat_map, if◌then◌else◌}
+use Rattle.std.specs.Prelude.{ℕ, Bool, not, ◌&&◌, ◌==◌, List, flat_map}
 use Rattle.spoc_base.specs.Address.{is_inside}
 use Rattle.policy_model.specs.Policy.{Policy, net_of}
-use Rattle.policy_model.specs.Permits.{End, Permit, net_end}
+use Rattle.policy_model.specs.Permits.{End, Permit}
 use Rattle.spoc_base.specs.Boxes.{TransportBox}
 use Rattle.std.specs.Prelude.{map}
 

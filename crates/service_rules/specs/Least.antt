@@ -1,9 +1,9 @@
 -- The least interface that passes a test.
-use Rattle.std.specs.Prelude.{◌≡◌, ℕ, ◌<◌, Bool, true, false, List, ◌++◌, length, slice_index_or, Option, Some, None}
+use Rattle.std.specs.Prelude.{◌≡◌, ℕ, ◌<◌, Bool, false, List, ◌++◌, length, slice_index_or, Option, Some, None}
 use Rattle.std.specs.List.{list_any}
 use Rattle.spoc_base.specs.declared.ids.IfId.{IfId}
 use Rattle.group_expand.specs.Areas.{IsFirst}
-use Rattle.policy_model.specs.Policy.{Policy, Rule}
+use Rattle.policy_model.specs.Policy.{Rule}
 use Rattle.policy_model.specs.Zones.{Site}
 use Rattle.policy_model.specs.Objects.{Object, objects_of}
 use Rattle.policy_model.specs.Faults.{is_managed_end, has_managed_end}

@@ -23,7 +23,11 @@ fn of_rule(scope: &Scope<'_>, rule: &Rule<'_>, user: &[Object]) -> Result<u64, N
 {
     let srcs = ends(scope, &side(scope, rule.src, user)?)?;
     let dsts = ends(scope, &side(scope, rule.dst, user)?)?;
-    Ok((srcs.len() as u64).saturating_mul((dsts.len() as u64).saturating_mul(rule.prts.len() as u64)))
+    Ok(
+        (srcs.len() as u64).saturating_mul(
+            (dsts.len() as u64).saturating_mul(rule.prts.len() as u64),
+        ),
+    )
 }
 
 // How many permits a service gives, as far as the number goes.

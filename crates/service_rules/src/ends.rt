@@ -37,12 +37,7 @@ fn nested(topo: Topo<'_>, n: NetId, m: NetId) -> bool
 }
 
 // Adds another network, where it lies inside the prefix of a network.
-fn add_nested(
-    topo: Topo<'_>,
-    n: NetId,
-    m: NetId,
-    found: &mut Vec<End>,
-) -> Result<(), NoMemory>
+fn add_nested(topo: Topo<'_>, n: NetId, m: NetId, found: &mut Vec<End>) -> Result<(), NoMemory>
     requires outer { n.0 < length (policy_of topo).nets }
     requires inner { m.0 < length (policy_of topo).nets }
     ensures { OnOk result (map end_of found.new.items ≡ (if is_nested (policy_of topo.entry) n.0 m.0 then map end_of found.old.items ++ permits.net_end (policy_of topo.entry) m.0 ∷ [] else map end_of found.old.items)) }

@@ -18,11 +18,7 @@ use spoc_base::{IfId, NoMemory};
 use topology::{Rule, Service, Topo};
 
 // The least interface of a managed router at an end of a rule.
-fn in_rule(
-    scope: &Scope<'_>,
-    rule: &Rule<'_>,
-    user: &[Object],
-) -> Result<Option<IfId>, NoMemory>
+fn in_rule(scope: &Scope<'_>, rule: &Rule<'_>, user: &[Object]) -> Result<Option<IfId>, NoMemory>
     requires scope { IsScope scope.now }
     requires sound { is_sound_rule (policy_of scope.now.topo) (rule_seen rule.now) ≡ true }
     requires user { are_there (policy_of scope.now.topo) (map object_seen user.now) ≡ true }

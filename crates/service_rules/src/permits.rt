@@ -18,12 +18,7 @@ use spoc_base::{NoMemory, TBox};
 use topology::{Rule, Service};
 
 // Adds the permits of one source and one destination.
-fn add_pair(
-    src: End,
-    dst: End,
-    boxes: &[TBox],
-    found: &mut Vec<Permit>,
-) -> Result<(), NoMemory>
+fn add_pair(src: End, dst: End, boxes: &[TBox], found: &mut Vec<Permit>) -> Result<(), NoMemory>
     ensures { OnOk result (map permit_of found.new.items ≡ map permit_of found.old.items ++ pair_permits (map box_of boxes.now) (end_of src) (end_of dst)) }
 {
     for t in boxes {

@@ -1,6 +1,6 @@
-use Rattle.std.proofs.Common.{◌≡◌, ◌∙◌, ℕ, ap, map, length, refl, arith}
+use Rattle.std.proofs.Common.{ap, length, refl, arith}
 use Rattle.topology.specs.View.{policy_of, sources_of}
-use Rattle.service_rules.specs.Counted.{counted, most}
+use Rattle.service_rules.specs.Counted.{most}
 use Rattle.service_rules.specs.Scope.{site_in}
 use Rattle.service_rules.proofs.Rules.{services_sound, policy_begins, rest_sound, services_to_come, count_more, count_end}
 use Rattle.service_rules.proofs.Counts.{count_begins}

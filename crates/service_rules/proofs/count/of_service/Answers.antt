@@ -1,5 +1,5 @@
-use Rattle.std.proofs.Common.{◌≡◌, ◌∙◌, ℕ, ap, map, length, refl, arith}
-use Rattle.policy_model.specs.Permits.{rule_permits, service_permits}
+use Rattle.std.proofs.Common.{◌∙◌, ap, map, length, refl, arith}
+use Rattle.policy_model.specs.Permits.{rule_permits}
 use Rattle.topology.specs.Seen.{rule_seen, service_seen}
 use Rattle.topology.specs.Sound.{is_sound_rule}
 use Rattle.topology.specs.View.{policy_of, sources_of}

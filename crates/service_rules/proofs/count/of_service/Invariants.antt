@@ -1,9 +1,6 @@
-use Rattle.std.proofs.Common.{◌≡◌, ◌+◌, ◌≤◌, map, flat_map, drop, length, true}
-use Rattle.std.specs.Prelude.{min}
-use Rattle.std.specs.List.{list_all}
-use Rattle.policy_model.specs.Permits.{rule_permits, service_permits}
-use Rattle.topology.specs.Seen.{rule_seen, service_seen}
-use Rattle.topology.specs.Sound.{is_sound_rule}
+use Rattle.std.proofs.Common.{◌≡◌, ◌+◌, ◌≤◌, map, drop, length, true}
+use Rattle.policy_model.specs.Permits.{service_permits}
+use Rattle.topology.specs.Seen.{service_seen}
 use Rattle.topology.specs.View.{policy_of, sources_of}
 use Rattle.group_expand.specs.Sets.{object_seen}
 use Rattle.service_rules.specs.Counted.{counted, most}

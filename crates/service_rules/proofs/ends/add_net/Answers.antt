@@ -1,4 +1,4 @@
-use Rattle.std.proofs.Common.{◌≡◌, ◌∙◌, ℕ, map, ap, arith, length}
+use Rattle.std.proofs.Common.{◌∙◌, ℕ, map, ap, arith, length}
 use Rattle.std.specs.Prelude.{◌==◌}
 use Rattle.spoc_base.specs.declared.ids.NetId.{NetId}
 use Rattle.policy_model.specs.Permits.{net_end}
@@ -21,7 +21,7 @@ pub add_nested-requires-clause-inner : goal.add_nested-requires-clause-inner
 add_nested-requires-clause-inner c =
     let s = site_in c.args.scope.now in
     let low = row_below (λ (n : NetId). n.0) (λ n. zone_of s n == c.zone_of.result.0) (length s.zones) c.nets-row.result.now _ c.nets-row.ensures (c.requires.scope.graph.nets_are c.zone_of.result.0 (omega (arith, c.zone_of.ensures, c.requires.scope.graph.numbers.below c.args.n.0 (omega (arith, c.requires.there, c.requires.scope.graph.table.each)))))
-        c.loop-m.m-index (record { 0 = 0 }) c.loop-m-test.true in
+    c.loop-m.m-index (record { 0 = 0 }) c.loop-m-test.true in
     omega (arith, low, c.requires.scope.graph.table.each)
 
 pub loop-m-preserved : goal.loop-m-preserved

@@ -1,10 +1,10 @@
-use Rattle.std.proofs.Common.{◌≡◌, length, arith}
+use Rattle.std.proofs.Common.{length}
 use Rattle.policy_model.specs.FirstFault.{most_items}
 use Rattle.policy_model.specs.Permits.{permits_of}
-use Rattle.topology.specs.View.{policy_of, sources_of}
+use Rattle.topology.specs.View.{sources_of}
 use Rattle.group_expand.specs.Seen.{site_of}
 use Rattle.service_rules.specs.Counted.{most}
-use Rattle.service_rules.proofs.FirstRules.{clear, end_at, no_end, tells_end, tells_limit, counted_over, counted_under}
+use Rattle.service_rules.proofs.FirstRules.{end_at, no_end, tells_end, tells_limit, counted_over}
 use Rattle.service_rules.proofs.expansion.expand.Goals as goal
 
 pub returns-in-Some-clause-refused : goal.returns-in-Some-clause-refused

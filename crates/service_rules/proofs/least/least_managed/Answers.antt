@@ -1,4 +1,4 @@
-use Rattle.std.proofs.Common.{◌≡◌, length, map}
+use Rattle.std.proofs.Common.{length}
 use Rattle.policy_model.specs.Faults.{is_managed_end}
 use Rattle.topology.specs.View.{policy_of}
 use Rattle.group_expand.specs.Sets.{object_seen}

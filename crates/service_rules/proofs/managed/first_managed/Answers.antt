@@ -1,6 +1,5 @@
-use Rattle.std.proofs.Common.{◌≡◌, length, subst}
+use Rattle.std.proofs.Common.{subst}
 use Rattle.topology.specs.Seen.{service_seen}
-use Rattle.topology.specs.Sound.{is_sound_service}
 use Rattle.topology.specs.View.{policy_of, sources_of}
 use Rattle.policy_model.specs.Faults.{has_managed_end}
 use Rattle.service_rules.specs.Least.{IsLeast}

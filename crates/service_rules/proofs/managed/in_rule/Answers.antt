@@ -1,4 +1,4 @@
-use Rattle.std.proofs.Common.{◌≡◌, ◌∙◌, ap, map, length}
+use Rattle.std.proofs.Common.{◌∙◌, ap, map, length}
 use Rattle.std.specs.List.{list_any}
 use Rattle.policy_model.specs.Faults.{is_managed_end}
 use Rattle.group_expand.specs.Sets.{object_seen}

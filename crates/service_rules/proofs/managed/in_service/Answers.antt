@@ -1,13 +1,12 @@
-use Rattle.std.proofs.Common.{◌≡◌, ◌∙◌, ℕ, ap, map, length, refl, List, subst, sym}
+use Rattle.std.proofs.Common.{map, length, refl, subst}
 use Rattle.topology.specs.Seen.{rule_seen, service_seen}
 use Rattle.topology.specs.Sound.{is_sound_rule}
 use Rattle.topology.specs.View.{policy_of, sources_of}
-use Rattle.policy_model.specs.Objects.{Object}
 use Rattle.group_expand.specs.Sets.{object_seen}
 use Rattle.service_rules.specs.Least.{IsLeast, rule_has_end}
 use Rattle.service_rules.specs.Scope.{site_in}
-use Rattle.service_rules.proofs.LeastEnds.{least_more, least_all, least_item, service_least}
-use Rattle.service_rules.proofs.Rules.{rest_sound, next_sound, rules_sound, user_sound}
+use Rattle.service_rules.proofs.LeastEnds.{least_all, least_item, service_least}
+use Rattle.service_rules.proofs.Rules.{rest_sound, rules_sound, user_sound}
 use Rattle.service_rules.proofs.managed.in_service.Goals as goal
 
 pub user-requires-clause-sound : goal.user-requires-clause-sound

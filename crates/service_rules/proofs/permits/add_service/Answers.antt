@@ -1,4 +1,4 @@
-use Rattle.std.proofs.Common.{◌≡◌, ◌++◌, ◌∙◌, map, flat_map, refl, ap}
+use Rattle.std.proofs.Common.{◌++◌, ◌∙◌, map, refl, ap}
 use Rattle.topology.specs.Seen.{rule_seen, service_seen}
 use Rattle.topology.specs.Sound.{is_sound_rule}
 use Rattle.topology.specs.View.{policy_of, sources_of}

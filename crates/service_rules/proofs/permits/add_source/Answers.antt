@@ -1,4 +1,4 @@
-use Rattle.std.proofs.Common.{◌≡◌, ◌++◌, map, flat_map, refl}
+use Rattle.std.proofs.Common.{map, flat_map, refl}
 use Rattle.spoc_base.specs.Shown.{box_of}
 use Rattle.permit_set.specs.Shown.{end_of, permit_of}
 use Rattle.service_rules.specs.Ends.{pair_permits}

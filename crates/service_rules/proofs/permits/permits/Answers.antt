@@ -1,7 +1,4 @@
-use Rattle.std.proofs.Common.{◌≡◌, ◌++◌, ◌∙◌, map, flat_map, refl, ap, List}
-use Rattle.policy_model.specs.Permits.{Permit, service_permits}
-use Rattle.topology.specs.Seen.{service_seen}
-use Rattle.topology.specs.Sound.{is_sound_service}
+use Rattle.std.proofs.Common.{◌++◌, ◌∙◌, map, ap}
 use Rattle.topology.specs.View.{policy_of, sources_of}
 use Rattle.permit_set.specs.Shown.{permit_of}
 use Rattle.service_rules.specs.Scope.{site_in}
