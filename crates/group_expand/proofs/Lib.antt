@@ -1,0 +1,17 @@
+pub mod Marks
+pub mod Search
+pub mod Rows
+pub mod AreaRows
+pub mod ObjectLists
+pub mod ObjectEq
+pub mod SetLaws
+pub mod Split
+pub mod Gathering
+pub mod UnionRows
+pub mod Waiting
+pub mod SoundSets
+pub mod UnionSets
+pub mod RowFilling
+pub mod GroupOrder
+pub mod Loops
+pub mod Tables

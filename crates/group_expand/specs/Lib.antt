@@ -1,0 +1,6 @@
+pub mod Spread
+pub mod Seen
+pub mod Areas
+pub mod Sets
+pub mod Scope
+pub mod Groups

@@ -1,0 +1,5 @@
+pub mod EndLists
+pub mod LeastEnds
+pub mod Counts
+pub mod Rules
+pub mod FirstRules

@@ -1,0 +1,5 @@
+pub mod Scope
+pub mod Ends
+pub mod Least
+pub mod Counted
+pub mod Faults
