@@ -1,5 +1,5 @@
 -- The lines of a permit, source by source; and the permits of the replies, from their two slots.
-use Rattle.std.proofs.Common.{◌≡◌, ℕ, List, [], ◌∷◌, ◌++◌, map, refl, sym, ap, subst, ◌∙◌, append_assoc, append-nil, tt, Option}
+use Rattle.std.proofs.Common.{◌≡◌, ℕ, List, [], ◌∷◌, ◌++◌, map, refl, sym, ap, subst, ◌∙◌, append_assoc, append-nil, Option}
 use Rattle.std.specs.Prelude.{true, flat_map, option_map, option_to_list, slice_index_or, IfSome}
 use Rattle.std.proofs.Math.ListN.{get_or-map}
 use Rattle.spoc_base.specs.Address.{Cidr}

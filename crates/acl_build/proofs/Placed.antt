@@ -8,8 +8,8 @@ use Rattle.policy_model.specs.Policy.{Policy, all_nets}
 use Rattle.policy_model.specs.Zones.{Site}
 use Rattle.policy_model.specs.Tags.{Views}
 use Rattle.policy_model.specs.Permits.{Permit, has_replies}
-use Rattle.policy_model.specs.Filters as filters
 use Rattle.policy_model.specs.Blocks.{NetPair, Block, all_pairs, is_on_path, pairs_on_path, no_permit, permit_at, permits_between, replied_between, is_ios_at, view_here, block_of, is_needed, depth_of, placement, block_lines, list_at}
+use Rattle.policy_model.specs.Filters.{deny_all}
 use Rattle.policy_model.proofs.AllWalks.{IsIn, from_map}
 use Rattle.policy_laws.proofs.Members.{from_flat_map, from_filter}
 use Rattle.policy_laws.proofs.Placed.{below_count}
@@ -17,7 +17,10 @@ use Rattle.policy_laws.proofs.PermitLines.{places_sound, from_pairs}
 use Rattle.permit_set.specs.declared.block.PairBlock.{PairBlock}
 use Rattle.acl_build.specs.Given.{IsBlock}
 use Rattle.acl_build.specs.Pieces.{lines_of_block}
-use Rattle.acl_build.specs.Seen.{block_seen}
+use Rattle.dev_config.specs.Seen.{line_of}
+use Rattle.dev_config.specs.declared.setup.Line.{Line}
+use Rattle.nat_view.specs.Seen.{Sight}
+use Rattle.acl_build.specs.Seen.{block_seen, GrowsBy}
 
 -- ---- members of lists
 
@@ -98,3 +101,13 @@ module _ (s : Site) (v : Views) (permits : List Permit) (i : ℕ) where
   blocks_give blocks e =
       ap (flat_map (lines_of_block s.policy (view_here s v permits i) permits)) e
       ∙ same_pieces (lines_of_block s.policy (view_here s v permits i) permits) (block_lines s v permits i) (placement s v permits i) its_lines
+
+  -- the lines of the blocks in the interface's view, and then the last denial, are the list
+  pub list_made : (sight : Sight) (blocks : List Block) (old mid new : List Line) → sight.policy ≡ s.policy → sight.tags ≡ view_here s v permits i → blocks ≡ placement s v permits i →
+      old ≡ [] → GrowsBy (flat_map (lines_of_block sight.policy sight.tags permits) blocks) old mid → GrowsBy (deny_all ∷ []) mid new → map line_of new ≡ list_at s v permits i
+  list_made sight blocks old mid new e f g none first last =
+      let given = flat_map (lines_of_block sight.policy sight.tags permits) blocks in
+      let same : given ≡ flat_map (block_lines s v permits i) (placement s v permits i) =
+      ap (λ p. flat_map (lines_of_block p sight.tags permits) blocks) e ∙ (ap (λ t. flat_map (lines_of_block s.policy t permits) blocks) f ∙ blocks_give blocks g) in
+      let start : map line_of mid ≡ given = first ∙ ap (λ os. map line_of os ++ given) none in
+      last ∙ ap (λ ls. ls ++ deny_all ∷ []) (start ∙ same)
