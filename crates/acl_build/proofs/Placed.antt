@@ -50,6 +50,12 @@ module _ (s : Site) (v : Views) (permits : List Permit) (i : ℕ) where
       let w = from_choice (is_ios_at s.policy i) k (filter (λ k. has_replies (permit_at permits k).box) all) h in
       between_below e.dst e.src k (from_filter (λ k. has_replies (permit_at permits k).box) k all w).0
 
+  src_of : (e : NetPair) (u w : ℕ) → e ≡ record { src = u; dst = w } → u < length s.policy.nets → e.src < length s.policy.nets
+  src_of e u w is below = subst (λ n. n < length s.policy.nets) (sym (ap (λ (k : NetPair). k.src) is)) below
+
+  dst_of : (e : NetPair) (u w : ℕ) → e ≡ record { src = u; dst = w } → w < length s.policy.nets → e.dst < length s.policy.nets
+  dst_of e u w is below = subst (λ n. n < length s.policy.nets) (sym (ap (λ (k : NetPair). k.dst) is)) below
+
   -- the block is that of a pair whose networks are there
   record IsBlockOf (b : Block) : Type 0 where
     pub pair : NetPair
@@ -71,8 +77,8 @@ module _ (s : Site) (v : Views) (permits : List Permit) (i : ℕ) where
       let g = from_pairs (all_nets s.policy) (all_nets s.policy) x j.1 in
       record {
         pair = e;
-        src_below = subst (λ n. n < length s.policy.nets) (sym (ap (λ (k : NetPair). k.src) j.2)) (below_count s.policy x.0 g.0);
-        dst_below = subst (λ n. n < length s.policy.nets) (sym (ap (λ (k : NetPair). k.dst) j.2)) (below_count s.policy x.1 g.1);
+        src_below = src_of e x.0 x.1 j.2 (below_count s.policy x.0 g.0);
+        dst_below = dst_of e x.0 x.1 j.2 (below_count s.policy x.1 g.1);
         is = m.2;
       }
 
@@ -88,8 +94,11 @@ module _ (s : Site) (v : Views) (permits : List Permit) (i : ℕ) where
       subst (IsBlock s.policy (length permits)) (sym w.is) its
 
   -- all blocks that are placed are such ones
-  pub placed_blocks : (pairs : List PairBlock) → map block_seen pairs ≡ placement s v permits i → All (λ b. IsBlock s.policy (length permits) (block_seen b)) pairs
-  placed_blocks pairs e = all_seen (IsBlock s.policy (length permits)) block_seen pairs (λ b h. placed_block b (subst (IsIn b) e h))
+  pub placed_blocks : (p : Policy) (count : ℕ) (pairs : List PairBlock) → p ≡ s.policy → count ≡ length permits → map block_seen pairs ≡ placement s v permits i →
+      All (λ b. IsBlock p count (block_seen b)) pairs
+  placed_blocks p count pairs e f g =
+      all_seen (IsBlock p count) block_seen pairs
+      (λ b h. subst (λ n. IsBlock p n b) (sym f) (subst (λ q. IsBlock q (length permits) b) (sym e) (placed_block b (subst (IsIn b) g h))))
 
   its_lines : (b : Block) → IsIn b (placement s v permits i) → lines_of_block s.policy (view_here s v permits i) permits b ≡ block_lines s v permits i b
   its_lines b h =
