@@ -1,7 +1,8 @@
 -- The lines of a permit, source by source; and the permits of the replies, from their two slots.
-use Rattle.std.proofs.Common.{◌≡◌, ℕ, List, [], ◌∷◌, ◌++◌, map, refl, sym, ap, subst, ◌∙◌, append_assoc, append-nil, Option}
+use Rattle.std.proofs.Common.{◌≡◌, ℕ, ◌<◌, length, List, [], ◌∷◌, ◌++◌, map, refl, sym, ap, subst, ◌∙◌, append_assoc, append-nil, Option}
 use Rattle.std.specs.Prelude.{true, flat_map, option_map, option_to_list, slice_index_or, IfSome}
 use Rattle.std.proofs.Math.ListN.{get_or-map}
+use Rattle.std.proofs.lemmas.List.{length-map}
 use Rattle.spoc_base.specs.Address.{Cidr}
 use Rattle.spoc_base.specs.Boxes.{TransportBox, AnyTransport, TcpPorts, UdpPorts, IcmpTypes, ProtocolNumber, all_ports}
 use Rattle.policy_model.specs.Lists.{pairs_of}
@@ -9,13 +10,13 @@ use Rattle.policy_model.specs.Policy.{Policy}
 use Rattle.policy_model.specs.Permits as plain
 use Rattle.policy_model.specs.Permits.{mirrored_boxes, mirrors_of}
 use Rattle.policy_model.specs.Filters as filters
-use Rattle.policy_model.specs.Blocks.{end_cover, permit_lines}
+use Rattle.policy_model.specs.Blocks.{end_cover, permit_lines, permit_at}
 use Rattle.permit_set.specs.Shown.{permit_of}
 use Rattle.permit_set.specs.Slots.{two_slots}
 use Rattle.permit_set.specs.declared.permit.Permit.{Permit}
 use Rattle.dev_config.specs.Seen.{line_of}
 use Rattle.dev_config.specs.declared.setup.Line.{Line}
-use Rattle.acl_build.specs.Given.{IsKnown}
+use Rattle.acl_build.specs.Given.{IsKnown, AreKnown}
 use Rattle.acl_build.specs.Pieces.{lines_from, some_lines, reply_lines}
 use Rattle.acl_build.specs.Seen.{GrowsBy}
 
@@ -40,6 +41,9 @@ pub grown_twice : (first second : List filters.Line) (old mid new : List Line) �
 grown_twice first second old mid new g h = h ∙ (ap (λ ls. ls ++ second) g ∙ append_assoc (map line_of old) first second)
 
 -- ---- the lines of a permit
+
+pub known_at : (p : Policy) (all : List Permit) (k : ℕ) (q : Permit) → AreKnown p (map permit_of all) → k < length all → permit_of q ≡ permit_at (map permit_of all) k → IsKnown p (permit_of q)
+known_at p all k q known below is = subst (IsKnown p) (sym is) (known.each k (subst (λ n. k < n) (sym (length-map all permit_of)) below))
 
 pub permit_grows : (p : Policy) (view : List ℕ) (q : plain.Permit) (srcs dsts : List Cidr) (old new : List Line) → srcs ≡ end_cover p view q.src → dsts ≡ end_cover p view q.dst →
     GrowsBy (flat_map (lines_from q.box dsts) srcs) old new → GrowsBy (permit_lines p view q) old new

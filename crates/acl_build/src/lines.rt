@@ -79,10 +79,7 @@ pub(crate) fn push_denial<'s>(
 }
 
 /// Puts the denial of everything behind the others.
-pub(crate) fn push_last<'s>(
-    scratch: &'s Bump,
-    lines: &mut Vec<Line<'s>>,
-) -> Result<(), NoMemory>
+pub(crate) fn push_last<'s>(scratch: &'s Bump, lines: &mut Vec<Line<'s>>) -> Result<(), NoMemory>
     ensures { OnOk result (GrowsBy (last_line ∷ []) lines.old.items lines.new.items) }
 {
     let any = any_prefix();

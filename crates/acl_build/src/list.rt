@@ -65,7 +65,14 @@ fn list_of<'s>(
 {
     let view = view_at(topo, graph, views, place.iface);
     let mut lines = Vec::new(alloc);
-    push_blocks(alloc, scratch, view, permits, place.pairs.items(), &mut lines)?;
+    push_blocks(
+        alloc,
+        scratch,
+        view,
+        permits,
+        place.pairs.items(),
+        &mut lines,
+    )?;
     push_last(scratch, &mut lines)?;
     let lines = scratch.try_alloc_slice_copy(&lines)?;
     Ok(List { lines })

@@ -92,17 +92,8 @@ fn at(permits: &[Permit], k: u32) -> &Permit
     &permits[k as usize]
 }
 
-// The permit of this number, of known ones.
-fn numbered<'p>(view: View<'_>, permits: &'p [Permit], k: u32) -> &'p Permit
-    requires known { AreKnown (sight_of view).policy (map permit_of permits.now) }
-    requires below { k < length permits.now }
-    ensures value { permit_of result.now ≡ permit_at (map permit_of permits.now) k }
-    ensures known { IsKnown (sight_of view.entry).policy (permit_of result.now) }
-{
-    at(permits, k)
-}
-
 /// Puts the lines of the permits of these numbers behind the others.
+#[tactic(auto, using(crate::proofs::Parts::known_at))]
 pub(crate) fn push_forward<'s>(
     alloc: Global,
     scratch: &'s Bump,
@@ -116,13 +107,14 @@ pub(crate) fn push_forward<'s>(
     ensures { OnOk result (GrowsBy (flat_map (forward_lines (sight_of view.entry).policy (sight_of view.entry).tags (map permit_of permits.now)) numbers.now) lines.old.items lines.new.items) }
 {
     for k in numbers {
-        let q = numbered(view, permits, *k);
+        let q = at(permits, *k);
         push_permit(alloc, scratch, view, q, lines)?;
     }
     Ok(())
 }
 
 /// Puts the lines of the replies to the permits of these numbers behind the others.
+#[tactic(auto, using(crate::proofs::Parts::known_at))]
 pub(crate) fn push_mirrored<'s>(
     alloc: Global,
     scratch: &'s Bump,
@@ -136,7 +128,7 @@ pub(crate) fn push_mirrored<'s>(
     ensures { OnOk result (GrowsBy (flat_map (mirrored_lines (sight_of view.entry).policy (sight_of view.entry).tags (map permit_of permits.now)) numbers.now) lines.old.items lines.new.items) }
 {
     for k in numbers {
-        let q = numbered(view, permits, *k);
+        let q = at(permits, *k);
         push_replies(alloc, scratch, view, q, lines)?;
     }
     Ok(())
