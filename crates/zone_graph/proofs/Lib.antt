@@ -1,4 +1,3 @@
-mod Counted
 mod Filled
 mod Joining
 mod Labelled
