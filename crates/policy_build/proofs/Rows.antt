@@ -1,5 +1,5 @@
 -- Rows of parts of a union, as lists.
-use Rattle.std.proofs.Common.{◌≡◌, ◌∙◌, refl, sym, ap, List, [], ◌∷◌, map}
+use Rattle.std.proofs.Common.{◌≡◌, ◌∙◌, refl, sym, ap, Bool, List, [], ◌∷◌, map}
 use Rattle.policy_model.specs.Policy.{ObjectExpr, NoObjects, Joined}
 use Rattle.topology.specs.declared.sets.Union.{Union, Union', out-Union, outs-Union', Row_of-Inter, end_of-Inter, more_of-Inter, items-the_row-Inter, items_shown-the_row-Inter-1}
 use Rattle.topology.specs.declared.sets.Inter.{Inter, Inter', out-Inter, outs-Inter', Row_of-Further, end_of-Further, more_of-Further, items-the_row-Further, items_shown-the_row-Further-0}
