@@ -16,7 +16,13 @@ use Rattle.syntax_laws.specs.Said.{decls_said}
 use Rattle.syntax_laws.specs.WordsIn.{IsSlice, perhaps_in, word_in, net_words, iface_words, router_words, words_in}
 use Rattle.syntax_laws.proofs.Phrases.{halves}
 use Rattle.syntax_laws.proofs.Whole.{run_formed, run_in_text}
-use Rattle.policy_files.specs.Fault.{toks_in}
+use Rattle.spoc_base.specs.declared.fault.Fault.{Fault}
+use Rattle.spoc_base.specs.declared.fault.Refusal.{Refusal}
+use Rattle.spoc_base.specs.declared.fault.Refusal.TheVariants as refusal
+use Rattle.topology.specs.First.{IsRefusalOf}
+use Rattle.policy_decls.specs.Faults.{fault_of}
+use Rattle.policy_files.specs.Fault.{toks_in, or_else, fault_of_texts}
+use Rattle.policy_source.specs.Faults.{fault_of_sources}
 use Rattle.policy_files.specs.OfTexts.{items_read, decls_of_text, declared_from, declared}
 use Rattle.policy_files.specs.Seen.{texts_of}
 use Rattle.policy_build.specs.Words.{IsWordOf, IsNetPartOf, IsIfPartOf, IsRoutPartOf, IsDeclOf, AreWordsOf}
@@ -26,13 +32,13 @@ use Rattle.policy_build.specs.Words.{IsWordOf, IsNetPartOf, IsIfPartOf, IsRoutPa
 -- the declarations of a text, by its tokens and by what the run of them reads
 by_run : (k : ℕ) (text : List ℕ) (toks : List Tok) → tokens_of text ≡ Ok toks → (o : Option (List (DeclIn most_levels) × List Tok)) → run_of most_levels toks ≡ o →
     (are_formed (decls_said k most_levels (items_read o)) ≡ true) × All (IsSlice k text) (flat_map words_in (decls_said k most_levels (items_read o)))
-by_run k text toks h None run = (refl, λ i b. absurd (omega (arith, b)))
+by_run k text toks h None run = (refl, All-from_recursion (IsSlice k text) [] tt)
 by_run k text toks h (Some r) run = (run_formed k most_levels text toks r.1 r.0 h run, run_in_text k most_levels text toks r.1 r.0 h run)
 
 by_tokens : (k : ℕ) (text : List ℕ) (r : Result (List Tok) ℕ) → tokens_of text ≡ r →
     (are_formed (decls_said k most_levels (items_read (run_of most_levels (toks_in r)))) ≡ true) × All (IsSlice k text) (flat_map words_in (decls_said k most_levels (items_read (run_of most_levels (toks_in r)))))
 by_tokens k text (Ok toks) h = by_run k text toks h (run_of most_levels toks) refl
-by_tokens k text (Err offset) h = (refl, λ i b. absurd (omega (arith, b)))
+by_tokens k text (Err offset) h = (refl, All-from_recursion (IsSlice k text) [] tt)
 
 text_is : (k : ℕ) (text : List ℕ) → (are_formed (decls_of_text k text) ≡ true) × All (IsSlice k text) (flat_map words_in (decls_of_text k text))
 text_is k text = by_tokens k text (tokens_of text) refl
@@ -55,6 +61,13 @@ formed texts = formed_from 0 texts
 
 -- ---- written
 
+same_source : (a b : Source) → Some a ≡ Some b → a ≡ b
+same_source a b e = ap (go a) e
+  where
+    go : Source → Option Source → Source
+    go d None = d
+    go d (Some c) = c
+
 module _ (sources : List Source) where
   -- the words of a file that is the k-th source
   word_of : (k : ℕ) (source : Source) → slice_get sources k ≡ Some source → k < length sources → (w : Lexeme) → IsSlice k source.text w → IsWordOf sources w
@@ -64,7 +77,7 @@ module _ (sources : List Source) where
         lies = record {
           file = subst (λ (n : ℕ). n < length sources) (sym s.source) below;
           order = s.order;
-          inside = subst (λ (o : Option Source). ForSome o (λ source. w.span.«end» ≤ length source.text)) (sym at) (λ x e. s.within);
+          inside = subst (λ (o : Option Source). ForSome o (λ source. w.span.«end» ≤ length source.text)) (sym at) (λ x e. subst (λ (t : Source). w.span.«end» ≤ length t.text) (same_source source x e) s.within);
         };
         same = ap (cut_by w) at ∙ s.bytes;
       }
@@ -133,3 +146,14 @@ module _ (sources : List Source) where
 
 pub written : (sources : List Source) → AreWordsOf sources (declared (texts_of sources))
 written sources = All-from_recursion (IsDeclOf sources) (declared (texts_of sources)) (written_from sources 0 sources (λ j. let e : 0 + j ≡ j = omega arith in ap (slice_get sources) e) (omega arith))
+
+-- ---- faults
+
+-- where the texts have no fault, that of the declarations counts
+pub of_decls : (texts : List (List ℕ)) (decls : List DeclText) → fault_of_texts texts ≡ None → decls ≡ declared texts → fault_of_sources texts ≡ fault_of decls
+of_decls texts decls ok said = ap (λ (o : Option Fault). or_else o (fault_of (declared texts))) ok ∙ ap fault_of (sym said)
+
+pub refused_later : (texts : List (List ℕ)) (decls : List DeclText) (r : Refusal) → fault_of_texts texts ≡ None → decls ≡ declared texts →
+    IsRefusalOf (λ fault. fault_of decls ≡ Some fault) r → IsRefusalOf (λ fault. fault_of_sources texts ≡ Some fault) r
+refused_later texts decls (refusal.Policy fault) ok said e = of_decls texts decls ok said ∙ e
+refused_later texts decls refusal.Memory ok said e = tt

@@ -35,5 +35,8 @@ pub fn read_policy<'a>(
 {
     declarations_are_formed_and_written();
     let files = read_files(alloc, arena, sources)?;
-    resolve(alloc, arena, sources, &files)
+    match resolve(alloc, arena, sources, &files) {
+        Ok(topo) => Ok(topo),
+        Err(refusal) => Err(refusal),
+    }
 }
