@@ -9,6 +9,6 @@ pub returns-in-Ok-clause-faultless : goal.returns-in-Ok-clause-faultless
 returns-in-Ok-clause-faultless c =
     of_decls (texts_of c.args.sources.now) (decls_of c.args.files.now) c.requires.faultless c.requires.said ∙ c.in-Ok.ensures.faultless
 
-pub returns-clause-refused : goal.returns-clause-refused
-returns-clause-refused c =
+pub returns-in-Err-clause-refused : goal.returns-in-Err-clause-refused
+returns-in-Err-clause-refused c =
     refused_later (texts_of c.args.sources.now) (decls_of c.args.files.now) c.in-Err.refusal c.requires.faultless c.requires.said c.in-Err.ensures.refused
