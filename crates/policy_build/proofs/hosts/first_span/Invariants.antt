@@ -1,0 +1,8 @@
+use Rattle.std.proofs.Common.{◌≡◌, map, flat_map, drop, slice_get}
+use Rattle.spoc_ast.specs.Seen.{host_part_seen}
+use Rattle.policy_decls.specs.Shapes.{spans_in}
+use Rattle.policy_build.proofs.hosts.first_span.Given as goal
+
+abbrev pub invariant-loop-part : goal.invariant-loop-part
+invariant-loop-part l =
+    slice_get (flat_map spans_in (map host_part_seen l.parts)) 0 ≡ slice_get (flat_map spans_in (map host_part_seen (drop l.part-index l.parts))) 0

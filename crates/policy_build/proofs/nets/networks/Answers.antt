@@ -1,0 +1,6 @@
+use Rattle.policy_build.specs.Views.{sources_in}
+use Rattle.policy_build.proofs.Goods.{decl_good_at}
+use Rattle.policy_build.proofs.nets.networks.Goals as goal
+
+pub add_network-requires : goal.add_network-requires
+add_network-requires c = decl_good_at (sources_in c.args.scope) c.args.scope.decls.now c.loop-decl.decl-index c.decl-item.result c.decl-item.is c.loop-decl-test.true c.requires

@@ -1,0 +1,11 @@
+pub mod Views
+pub mod Aligned
+pub mod Fair
+pub mod Protocols
+pub mod Words
+pub mod Good
+pub mod Ifaces
+pub mod Tags
+pub mod Services
+pub mod Rows
+pub mod Buildable
