@@ -1,16 +1,16 @@
 -- The prefixes of networks and of their translations, and the ranges of hosts, where declarations have no fault.
 use Rattle.std.proofs.Common.{◌≡◌, ℕ, ◌≤◌, inl, inr, Bool, true, false, not, ◌||◌, List, [], ◌∷◌, ◌++◌, refl, sym, ap, subst, ◌∙◌, nat_lt, arith}
-use Rattle.std.specs.Prelude.{Option, Some, None, flat_map, slice_get}
+use Rattle.std.specs.Prelude.{Option, Some, flat_map, slice_get}
 use Rattle.std.specs.List.{list_any}
 use Rattle.std.proofs.lemmas.Bool.{or_parts, ltb-false}
-use Rattle.spoc_base.specs.Address.{Cidr, Interval}
+use Rattle.spoc_base.specs.Address.{Cidr}
 use Rattle.policy_model.specs.Policy.{Net, Host}
 use Rattle.policy_model.proofs.AllWalks.{IsIn, in_front, in_back, in_flat_map}
 use Rattle.list_laws.proofs.Tables.{from_flat_map}
 use Rattle.policy_laws.specs.Secured.{IsPrefix}
 use Rattle.spoc_ast.specs.Written.{Lexeme, NatPartText, NetPartText, NetIp, NetHost, NetNat, NetIdle, DeclText, NetworkDecl, RouterDecl, GroupDecl, AreaDecl, AggregateDecl, ProtocolDecl, ProtocolGroupDecl, RestrictionDecl, ServiceDecl}
 use Rattle.policy_decls.specs.Names.{NetworkName}
-use Rattle.policy_decls.specs.Lookup.{ips_in_net_part, ips_in_nat_part, ips_in_nats, own_prefix}
+use Rattle.policy_decls.specs.Lookup.{ips_in_net_part, ips_in_nat_part, ips_in_nats}
 use Rattle.policy_decls.specs.Shapes.{has_one, hosts_in, spans_in, is_bad_host, is_unaligned}
 use Rattle.policy_decls.specs.Said.{number_of_name, nats_said, hosts_said, range_or_none, cidr_or_any, adds_of}
 use Rattle.policy_decls.specs.Formed.{are_formed}

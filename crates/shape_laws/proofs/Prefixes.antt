@@ -1,10 +1,10 @@
 -- Words that are prefixes, and have no host bit, say prefixes of 32 bits.
-use Rattle.std.proofs.Common.{◌≡◌, ℕ, ◌+◌, ◌*◌, ◌<◌, ◌≤◌, Bool, true, false, cond, List, [], ◌∷◌, refl, sym, ap, subst, ◌∙◌, nat_lt, arith}
-use Rattle.std.specs.Prelude.{◌^◌, ◌%◌, Option, Some, None, option_map, option_and_then, nat_le}
+use Rattle.std.proofs.Common.{◌≡◌, ℕ, ◌<◌, ◌≤◌, Bool, true, false, cond, List, [], ◌∷◌, refl, subst, nat_lt, arith}
+use Rattle.std.specs.Prelude.{◌%◌, Option, Some, None, option_map, option_and_then, nat_le}
 use Rattle.std.specs.List.{list_any}
 use Rattle.std.proofs.lemmas.Option.{none-some, same_Some, option_and_then_some}
 use Rattle.std.proofs.lemmas.Bool.{or_parts, ltb-false, leb-true}
-use Rattle.spoc_base.specs.Address.{Cidr, IsCidr, size_of}
+use Rattle.spoc_base.specs.Address.{Cidr, size_of}
 use Rattle.policy_laws.specs.Secured.{IsPrefix}
 use Rattle.spoc_ast.specs.Written.{Lexeme}
 use Rattle.policy_decls.specs.Numbers.{at_most, number_of, number_to, cut_at, address_from, address_of, prefix_of}

@@ -1,18 +1,18 @@
 -- The policy that declarations without a fault say is shaped and wired.
-use Rattle.std.proofs.Common.{◌≡◌, ℕ, zero, suc, ◌<◌, ◌≤◌, Bool, true, false, ◌&&◌, List, [], ◌∷◌, length, get_or, refl, sym, ap, ◌∙◌, ⊎_elim, arith}
-use Rattle.std.specs.Prelude.{IsTrue, Option, Some, None, IfSome, ◌+◌, ◌-◌, nat_le, slice_index_or}
+use Rattle.std.proofs.Common.{◌≡◌, ℕ, zero, suc, ◌<◌, ◌≤◌, Bool, true, false, ◌&&◌, List, [], ◌∷◌, length, refl, sym, ap, ◌∙◌, ⊎_elim, arith}
+use Rattle.std.specs.Prelude.{Option, Some, None, IfSome, ◌+◌, ◌-◌, nat_le, slice_index_or}
 use Rattle.std.specs.List.{list_all}
 use Rattle.std.proofs.lemmas.List.{get_or_past}
 use Rattle.std.proofs.lemmas.Option.{none-some}
 use Rattle.std.proofs.lemmas.Bool.{and_parts, and_from, leb-true, eqb-true, cases_lt}
-use Rattle.spoc_base.specs.Address.{Cidr, size_of, addresses, prefix_holds}
+use Rattle.spoc_base.specs.Address.{Cidr, size_of, prefix_holds}
 use Rattle.policy_model.specs.Policy.{Policy, ObjectExpr, NoObjects, OneNet, OneHost, OneIface, OfGroup, OfAggregate, OfArea, OfUser, NetsOf, HostsOf, ZonesOf, Joined, Common, Without, Group, Rule, Service, Iface, no_net, no_host, no_iface, no_group, net_of, host_of, iface_of, net_at}
 use Rattle.list_laws.proofs.Members.{each_in}
 use Rattle.list_laws.proofs.Tables.{from_flat_map}
 use Rattle.policy_laws.specs.Secured.{IsPrefix, IsNet, IsEnd, no_nat}
 use Rattle.policy_laws.specs.Routed.{IsWired}
 use Rattle.policy_laws.specs.Shaped.{names_hosts, IsShaped}
-use Rattle.topology.specs.Sound.{IsSound, is_sound_expr, is_sound_rule, is_sound_service, names_user, keeps_length}
+use Rattle.topology.specs.Sound.{IsSound, is_sound_expr, is_sound_rule, is_sound_service, keeps_length}
 use Rattle.spoc_ast.specs.Written.{DeclText}
 use Rattle.policy_decls.specs.Said.{adds_of, policy_said}
 use Rattle.policy_decls.specs.Faults.{fault_of}
@@ -110,9 +110,9 @@ module _ (decls : List DeclText) (formed : are_formed decls ≡ true) (none : fa
       record {
         own = w.0;
         nats = λ k there.
-        let nat = slice_index_or x.nats k no_nat in
-        let among = in_get x.nats k no_nat there in
-        kept x.own nat.1 (w.1 nat among) (each_in (λ (t : ℕ × Option Cidr). keeps_length x.own t.1) x.nats (sound.well_formed.nats n below) nat among);
+            let nat = slice_index_or x.nats k no_nat in
+            let among = in_get x.nats k no_nat there in
+            kept x.own nat.1 (w.1 nat among) (each_in (λ (t : ℕ × Option Cidr). keeps_length x.own t.1) x.nats (sound.well_formed.nats n below) nat among);
       }
 
   hosts_are : (h : ℕ) → h < length said.hosts → IsEnd said (record { net = (host_of said h).net; range = (host_of said h).range })

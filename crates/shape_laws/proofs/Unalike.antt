@@ -1,6 +1,6 @@
 -- Networks that are apart have distinct prefixes in each view, where none is translated or no tag is bound.
 use Rattle.std.proofs.Common.{◌≡◌, ℕ, ◌+◌, ◌-◌, ◌<◌, ◌≤◌, Bool, true, false, cond, ◌&&◌, List, [], ◌∷◌, length, refl, sym, ap, subst, ◌∙◌, ⊎_elim, nat_lt, arith}
-use Rattle.std.specs.Prelude.{◌≢◌, ◌==◌, Option, Some, find, option_map, unwrap_or, nat_le}
+use Rattle.std.specs.Prelude.{◌==◌, Option, Some, find, option_map, unwrap_or, nat_le}
 use Rattle.std.specs.List.{list_any}
 use Rattle.std.proofs.lemmas.Bool.{false≢true, and_parts, and_from, false_from_ne_true, ltb-true, leb-true, lt-ltb, eq-eqb, or_left, cases_lt}
 use Rattle.std.proofs.lemmas.List.{get_or_past}
@@ -11,7 +11,7 @@ use Rattle.policy_model.specs.Policy.{Policy, net_of}
 use Rattle.policy_model.specs.Zones.{Site, zone_of, zone_at, zone_count}
 use Rattle.policy_model.specs.Tags.{Views, AreViews, IsActive, zone_view}
 use Rattle.policy_model.specs.Places.{prefix_in}
-use Rattle.policy_model.specs.Faults.{has_tag, is_same_prefix, are_one_prefix, is_translated_inside}
+use Rattle.policy_model.specs.Faults.{has_tag, is_same_prefix, are_one_prefix}
 use Rattle.policy_model.specs.Headline.{Meaning, IsMeaning}
 use Rattle.policy_laws.specs.Shaped.{HasDistinctPrefixes}
 use Rattle.shape_laws.specs.Unlike.{IsUntranslated, IsUnbound, IsApart}
