@@ -1,0 +1,5 @@
+pub mod Prefixes
+pub mod Networks
+pub mod Shaping
+pub mod Unalike
+pub mod Lists
