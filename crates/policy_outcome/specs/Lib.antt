@@ -1,0 +1,5 @@
+pub mod Later
+pub mod Files
+pub mod Outcome
+pub mod Exact
+pub mod Found
