@@ -1,11 +1,2 @@
-pub mod Words
-pub mod Narrow
-pub mod Reading
-pub mod Consistent
-pub mod Entries
-pub mod DeviceText
-pub mod Seen
 pub mod Outcome
-pub mod Answer
-pub mod FileNames
-pub mod Accepted
+pub mod Exact

@@ -6,7 +6,7 @@ use Rattle.std.specs.Option.{unwrap_or}
 use Rattle.spoc_io.specs.Files.{Files, bytes_at}
 use Rattle.spoc_base.specs.declared.place.Source.{Source}
 use Rattle.spoc_run.specs.Policy.{with_bytes, first_large, most_of_one}
-use Rattle.compile_core.specs.Answer.{pair_of}
+use Rattle.fault_text.specs.Texts.{pair_of}
 use Rattle.spoc_run.specs.Sources.{ReadsOn, IsLargeOf}
 use Rattle.spoc_run.specs.declared.load.LoadFail.{LoadFail}
 use Rattle.spoc_run.specs.declared.load.LoadFail.TheVariants.{Read, Large, Memory}

@@ -3,15 +3,21 @@ use Rattle.std.specs.Prelude.{◌≡◌, ℕ, ◌==◌, ◌||◌, IsTrue, List, 
 use Rattle.std.specs.Str.{bytes_eq}
 use Rattle.std.specs.List.{IsDistinct}
 use Rattle.spoc_io.specs.Files.{Files, paths}
-use Rattle.compile_core.specs.Outcome.{Written}
+use Rattle.policy_outcome.specs.Outcome.{Written}
+use Rattle.compile_core.specs.Exact.{AreExact}
 use Rattle.spoc_run.specs.Outcome.{compiled_of, is_accepted, device_files, policy_text}
 use Rattle.spoc_run.specs.declared.load.LoadFail.{LoadFail}
 use Rattle.spoc_run.specs.declared.load.LoadFail.TheVariants.{Read, Large, Memory}
 
--- what an accepted policy compiles to, whose files have distinct names
+-- what an accepted policy compiles to, whose files have distinct names and decide exactly
 pub record IsCompiled (sources : Files) (written : Written) : Type 0 where
   pub is : compiled_of sources ≡ Ok written
   pub names : IsDistinct bytes_eq (paths written.files)
+  pub exact : AreExact sources written
+
+-- what the policy compiles to decides exactly
+abbrev pub IsExactly : Files → Type 0
+IsExactly sources = (written : Written) → compiled_of sources ≡ Ok written → AreExact sources written
 
 -- for a policy that was read
 pub record AnswersSources (sources : Files) (status : ℕ) (text : List ℕ) (files : Files) : Type 0 where
@@ -23,6 +29,7 @@ pub record AnswersSources (sources : Files) (status : ℕ) (text : List ℕ) (fi
   pub fault : status ≡ 1 → policy_text 1 sources ≡ Some text
   pub memory : status ≡ 5 → text ≡ codes "memory\n"
   pub names : IsDistinct bytes_eq (paths files)
+  pub exact : status ≡ 0 → IsExactly sources
 
 -- where it could not be read
 abbrev pub AnswersFail : LoadFail → ℕ → List ℕ → Files → Type 0

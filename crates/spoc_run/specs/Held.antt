@@ -1,8 +1,8 @@
 -- What the target holds after a policy was accepted.
 use Rattle.std.specs.Prelude.{◌≡◌, ℕ, List, Ok, true, is_some}
 use Rattle.spoc_io.specs.Files.{Files, bytes_at}
-use Rattle.compile_core.specs.Accepted.{AreExact}
-use Rattle.compile_core.specs.Outcome.{Written}
+use Rattle.policy_outcome.specs.Outcome.{Written}
+use Rattle.compile_core.specs.Exact.{AreExact}
 use Rattle.spoc_run.specs.Outcome.{compiled_of}
 
 -- The target holds the device files of the policy, and these do exactly what the policy says: they are the texts of configurations with which its devices

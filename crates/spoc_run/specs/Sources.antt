@@ -2,7 +2,7 @@
 use Rattle.std.specs.Prelude.{◌≡◌, ◌≤◌, ◌++◌, ℕ, List, Result, IfErr, IsErrOf, IsSome, All, map}
 use Rattle.spoc_io.specs.Files.{Files, bytes_at}
 use Rattle.spoc_io.specs.Causes.{Rose}
-use Rattle.compile_core.specs.Answer.{pair_of}
+use Rattle.fault_text.specs.Texts.{pair_of}
 use Rattle.spoc_base.specs.declared.place.Source.{Source}
 use Rattle.spoc_run.specs.Policy.{with_bytes, first_large, most_of_all}
 use Rattle.spoc_run.specs.declared.load.LoadFail.{LoadFail}

@@ -3,7 +3,7 @@ ghost use Rattle.std.specs.Str.{bytes_eq};
 ghost use Rattle.std.specs.List.{IsDistinct};
 ghost use Rattle.spoc_io.specs.Causes.{HasCause, BothTold};
 ghost use Rattle.spoc_io.specs.Files.{paths};
-ghost use Rattle.compile_core.specs.Answer.{file_of};
+ghost use Rattle.device_files.specs.Seen.{file_of};
 ghost use Rattle.spoc_run.specs.Puts.{PutsAll, PutsSome};
 
 use compile_core::DeviceFile;

@@ -6,7 +6,7 @@ ghost use Rattle.std.specs.Ordering.{nat_cmp};
 ghost use Rattle.std.specs.Cmp.Lexicographic.{slice_cmp};
 ghost use Rattle.std.specs.BTreeSet.{IsFromIterResult};
 ghost use Rattle.spoc_io.specs.Files.{bytes_at};
-ghost use Rattle.compile_core.specs.Answer.{pair_of};
+ghost use Rattle.fault_text.specs.Texts.{pair_of};
 ghost use Rattle.spoc_run.specs.Sources.{IsLargeOf, HasLoadCause};
 ghost use Rattle.spoc_run.specs.Paths.{is_policy_path, is_skipped_part};
 ghost use Rattle.spoc_run.specs.Policy.{policy_of, with_bytes, first_large, most_of_all, most_of_one};

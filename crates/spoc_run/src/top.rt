@@ -6,8 +6,9 @@ ghost use Rattle.spoc_io.specs.Causes.{Rose, BothTold};
 ghost use Rattle.spoc_io.specs.Files.{paths, Grows, GrowsPart};
 ghost use Rattle.spoc_run.specs.Policy.{policy_of};
 ghost use Rattle.spoc_run.specs.Outcome.{is_compile, text_of};
-ghost use Rattle.compile_core.specs.Answer.{file_of};
+ghost use Rattle.device_files.specs.Seen.{file_of};
 ghost use Rattle.spoc_run.specs.Answer.{bytes_of_message};
+ghost use Rattle.spoc_run.specs.Decided.{IsExactly};
 ghost use Rattle.spoc_run.specs.Held.{HoldsExact};
 ghost use Rattle.spoc_run.specs.Puts.{PutsAll, PutsSome};
 ghost use Rattle.spoc_run.specs.Caused.{IsCaused, InsteadOf, NothingFailed, IsSettled, is_either, files_of};
@@ -15,7 +16,6 @@ ghost use Rattle.spoc_run.specs.Caused.{IsCaused, InsteadOf, NothingFailed, IsSe
 use crate::answer::{Answer, Message, answer_for_fail, answer_for_sources, plain};
 use crate::deliver::put_all;
 use crate::load::load;
-use compile_core::accepted_policies_are_exact;
 use spoc_base::Text;
 use spoc_io::{Folder, Target, TextOut};
 use std::alloc::Global;
@@ -40,6 +40,7 @@ fn decide<P: Folder>(alloc: Global, words: &[Text], policy: &mut P) -> Answer
     ensures text { ForSome (text_of result.status (P.files policy.old)) (λ text. bytes_of_message result.text ≡ text) }
     ensures files { result.status ≡ 0 → ForSome (P.files policy.old) (λ fs. map file_of result.files ≡ files_of fs) }
     ensures names { IsDistinct bytes_eq (paths (map file_of result.files)) }
+    ensures exact { result.status ≡ 0 → ForSome (P.files policy.old) (λ fs. IsExactly (policy_of fs)) }
     ensures same { P.files policy.new ≡ P.files policy.old }
 {
     if !is_compile(words) {
@@ -142,7 +143,6 @@ pub fn run<P: Folder, C: Folder + Target, O: TextOut>(
     // The policy's folder is as before.
     ensures same { P.files policy.new ≡ P.files policy.old }
 {
-    accepted_policies_are_exact();
     let answer = decide(alloc, words, policy);
     deliver(code, out, &answer)
 }

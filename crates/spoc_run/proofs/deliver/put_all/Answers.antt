@@ -1,7 +1,7 @@
 use Rattle.std.proofs.Common.{◌≡◌, ◌<◌, map, get_or, length, ◌∙◌, sym, ap, arith}
 use Rattle.std.proofs.lemmas.List.{get_or-map, length-map}
 use Rattle.std.proofs.lemmas.Result.{err_from_is_err_and}
-use Rattle.compile_core.specs.Answer.{file_of}
+use Rattle.device_files.specs.Seen.{file_of}
 use Rattle.spoc_run.proofs.Putting.{told_more, told_part}
 use Rattle.spoc_run.proofs.deliver.put_all.Goals as goal
 

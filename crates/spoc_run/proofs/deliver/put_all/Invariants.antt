@@ -1,6 +1,6 @@
 use Rattle.std.proofs.Common.{◌≤◌, take, map}
 use Rattle.spoc_io.specs.Causes.{BothTold}
-use Rattle.compile_core.specs.Answer.{file_of}
+use Rattle.device_files.specs.Seen.{file_of}
 use Rattle.spoc_run.specs.Puts.{PutsAll}
 use Rattle.spoc_run.proofs.deliver.put_all.Given as goal
 

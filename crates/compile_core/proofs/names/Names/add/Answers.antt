@@ -1,8 +1,0 @@
-use Rattle.std.proofs.Common.{ap, not, ◌∙◌}
-use Rattle.std.specs.List.{list_any}
-use Rattle.std.specs.Str.{bytes_eq}
-use Rattle.compile_core.proofs.NameLemmas.{list_any_map}
-use Rattle.compile_core.proofs.names.Names.add.Goals as goal
-
-pub returns-clause-added : goal.returns-clause-added
-returns-clause-added c = c.in_ok-insert.ensures.added ∙ ap not (list_any_map (bytes_eq c.args.name.now) (λ k. k.now) c.self.inside.set.keys ∙ ap (list_any (bytes_eq c.args.name.now)) c.self.view_is)

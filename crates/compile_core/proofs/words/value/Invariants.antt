@@ -1,9 +1,0 @@
-use Rattle.std.proofs.Common.{◌≡◌, ◌<◌, ◌^◌, take}
-use Rattle.compile_core.specs.Words.{value_of}
-use Rattle.compile_core.proofs.words.value.Given as goal
-
-abbrev pub invariant-loop-byte : goal.invariant-loop-byte
-invariant-loop-byte l = record {
-  read : l.value ≡ value_of (take l.byte-index l.digits);
-  small : l.value < 10 ^ l.byte-index;
-}
