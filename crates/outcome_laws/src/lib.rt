@@ -1,0 +1,26 @@
+//! That what is compiled decides exactly: where no fault and no word is told of a policy, the access lists that are written for it pass an unambiguous packet
+//! of an allowed walk just if it is permitted or a reply.
+//! The functions here do nothing: each has a law as its contract.
+#![tactic(auto)]
+
+ghost use Rattle.std.specs.Prelude.{◌≡◌, ℕ, ◌<◌, List, [], length, slice_index_or, Ok, IsTrue};
+ghost use Rattle.policy_model.specs.Policy.{Policy, router_at, is_managed};
+ghost use Rattle.policy_model.specs.Blocks.{list_at};
+ghost use Rattle.policy_model.specs.Headline.{Meaning, permits_in};
+ghost use Rattle.policy_laws.specs.Routed.{IsWired};
+ghost use Rattle.policy_laws.specs.Shaped.{IsShaped};
+ghost use Rattle.meaning_laws.specs.Tables.{meaning_of};
+ghost use Rattle.policy_outcome.specs.Outcome.{Written, lists_for, written_for, outcome_for};
+ghost use Rattle.policy_outcome.specs.Exact.{DecidesExactly, configs_for};
+
+/// The list that is written for an interface of a managed router is the policy's own.
+pub fn lists_are_written()
+    ensures { (m : Meaning) (i : ℕ) → i < length m.site.policy.ifaces → IsTrue (is_managed m.site.policy (router_at m.site.policy i)) →
+        slice_index_or (lists_for m) i [] ≡ list_at m.site m.views (permits_in m) i }
+{}
+
+/// Where the outcome is not a fault, it is what is written for the policy, and its configurations decide exactly.
+pub fn accepted_policies_decide_exactly()
+    ensures { (sources : List (List ℕ × List ℕ)) (p : Policy) (written : Written) → IsShaped p → IsWired p → outcome_for sources (meaning_of p) ≡ Ok written →
+        (written ≡ written_for (meaning_of p)) × DecidesExactly p (configs_for (meaning_of p)) }
+{}
