@@ -1,4 +1,4 @@
-ghost use Rattle.std.specs.Prelude.{◌≡◌, ◌==◌, Ok, Err, IfOk, IfErr, map, length, filter, slice_index};
+ghost use Rattle.std.specs.Prelude.{◌≡◌, ◌==◌, ◌<◌, Ok, Err, IfOk, IfErr, map, length, filter, slice_index};
 ghost use Rattle.policy_laws.specs.Shaped.{IsShaped};
 ghost use Rattle.topology.specs.First.{IsRefusalOf};
 ghost use Rattle.topology.specs.View.{policy_of};

@@ -1,0 +1,247 @@
+// Whole runs over policies that were worked out by hand: services with hosts and several protocols,
+// areas, several routers, restrictions, routers that aren't managed, and an ASA.
+use crate::run;
+use spoc_base::{NoMemory, Text};
+use spoc_io::{MemFolder, MemOut};
+use std::alloc::Global;
+use std::process::Abort;
+use std::test::Fail;
+
+// The files of a folder: a path and a text each.
+type Files<'f> = &'f [(&'f str, &'f str)];
+
+// A folder with these files, in which some calls of `put` fail and keep so many bytes.
+fn folder(
+    alloc: Global,
+    files: Files<'_>,
+    room: u64,
+    put_fails: &[(u32, u64)],
+) -> Result<MemFolder, NoMemory> {
+    let mut texts = Vec::new(alloc);
+    for file in files {
+        let path = Text::of(alloc, file.0.as_bytes())?;
+        let text = Text::of(alloc, file.1.as_bytes())?;
+        texts.push((path, text))?;
+    }
+    MemFolder::new(
+        alloc,
+        texts,
+        room,
+        Vec::new(alloc),
+        put_fails.to_vec(alloc)?,
+    )
+}
+
+// The words of a call.
+fn words(alloc: Global) -> Result<Vec<Text>, NoMemory> {
+    let mut texts = Vec::new(alloc);
+    for word in ["compile", "p", "c"] {
+        let text = Text::of(alloc, word.as_bytes())?;
+        texts.push(text)?;
+    }
+    Ok(texts)
+}
+
+// What a call is to answer, to write, and to leave in the target.
+struct Wanted<'w> {
+    status: u8,
+    text: &'w str,
+    held: Files<'w>,
+}
+
+// Compares the files that the target holds.
+fn compare_held(rt: &impl Abort, code: &MemFolder, held: Files<'_>) {
+    let count = code.held_len();
+    assert_eq!(rt; count, held.len());
+    for k in 0..count {
+        assert_eq!(rt; code.held_name(k), held[k].0.as_bytes());
+        assert_eq!(rt; code.held_bytes(k), held[k].1.as_bytes());
+    }
+}
+
+// Compiles a policy of these files, where some calls of `put` fail, and compares.
+fn check_puts(
+    rt: &impl Abort,
+    alloc: Global,
+    files: Files<'_>,
+    put_fails: &[(u32, u64)],
+    wanted: &Wanted<'_>,
+) -> Result<(), NoMemory> {
+    let words = words(alloc)?;
+    let mut policy = folder(alloc, files, 0, &[])?;
+    let mut code = folder(alloc, &[], 1_000_000, put_fails)?;
+    let mut out = MemOut::new(alloc, 1000, Vec::new(alloc))?;
+    let status = run(alloc, &words, &mut policy, &mut code, &mut out);
+    assert_eq!(rt; out.text(), wanted.text.as_bytes());
+    assert_eq!(rt; status, wanted.status);
+    compare_held(rt, &code, wanted.held);
+    Ok(())
+}
+
+// Compiles a policy of these files, and compares.
+fn check(
+    rt: &impl Abort,
+    alloc: Global,
+    files: Files<'_>,
+    wanted: &Wanted<'_>,
+) -> Result<(), NoMemory> {
+    check_puts(rt, alloc, files, &[], wanted)
+}
+
+// Compiles a policy of one file, which is refused with this line.
+fn refuse(rt: &impl Abort, alloc: Global, policy: &str, line: &str) -> Result<(), NoMemory> {
+    let wanted = Wanted {
+        status: 1,
+        text: line,
+        held: &[],
+    };
+    check(rt, alloc, &[("p", policy)], &wanted)
+}
+
+// ---- one router
+
+const ONE_ROUTER: &str = "\
+router:r1 = {
+ managed;
+ model = IOS;
+ interface:n1 = { ip = 10.1.1.1; hardware = E1; }
+ interface:n2 = { ip = 10.1.2.1; hardware = E2; }
+}
+";
+
+const HOSTS: &str = "\
+network:n1 = { ip = 10.1.1.0/24; host:h = { range = 10.1.1.5-10.1.1.10; } }
+network:n2 = { ip = 10.1.2.0/24; }
+";
+
+const HOSTS_SERVICE: &str = "\
+service:s1 = {
+ user = host:h;
+ permit src = user; dst = network:n2; prt = tcp 80;
+}
+";
+
+const HOSTS_FILE: &str = "\
+! r1 IOS
+ip access-list extended E1_in
+ permit tcp host 10.1.1.5 10.1.2.0 0.0.0.255 eq 80
+ permit tcp 10.1.1.6 0.0.0.1 10.1.2.0 0.0.0.255 eq 80
+ permit tcp 10.1.1.8 0.0.0.1 10.1.2.0 0.0.0.255 eq 80
+ permit tcp host 10.1.1.10 10.1.2.0 0.0.0.255 eq 80
+ deny ip any any
+ip access-list extended E2_in
+ permit tcp 10.1.2.0 0.0.0.255 eq 80 host 10.1.1.5 established
+ permit tcp 10.1.2.0 0.0.0.255 eq 80 10.1.1.6 0.0.0.1 established
+ permit tcp 10.1.2.0 0.0.0.255 eq 80 10.1.1.8 0.0.0.1 established
+ permit tcp 10.1.2.0 0.0.0.255 eq 80 host 10.1.1.10 established
+ deny ip any any
+interface E1
+ ip access-group E1_in in
+interface E2
+ ip access-group E2_in in
+";
+
+// The policy stands in three files, one of them in a folder; others are skipped.
+#[test]
+fn a_range_of_hosts_in_many_files(rt: HostRuntime) -> Result<(), Fail> {
+    let alloc = rt.alloc();
+    let files = [
+        ("config", "no policy"),
+        ("net/.old", "no policy"),
+        ("net/hosts", HOSTS),
+        ("net/r1~", "no policy"),
+        ("r1", ONE_ROUTER),
+        ("raw/r1", "no policy"),
+        ("rules", HOSTS_SERVICE),
+    ];
+    let wanted = Wanted {
+        status: 0,
+        text: "networks 2\nzones 2\nrouters 1\npermits 1\nlocal 0\nlines 10\nroutes 0\n",
+        held: &[("r1", HOSTS_FILE)],
+    };
+    check(&rt, alloc, &files, &wanted)?;
+    Ok(())
+}
+
+const NETS: &str = "\
+network:n1 = { ip = 10.1.1.0/24; }
+network:n2 = { ip = 10.1.2.0/24; }
+";
+
+const PROTOCOLS_SERVICE: &str = "\
+service:s1 = {
+ user = network:n1;
+ permit src = user; dst = network:n2; prt = tcp 0-65535, udp 123:123, udp 65535, icmp 3/13, proto 50;
+}
+";
+
+const PROTOCOLS_FILE: &str = "\
+! r1 IOS
+ip access-list extended E1_in
+ permit tcp 10.1.1.0 0.0.0.255 10.1.2.0 0.0.0.255
+ permit udp 10.1.1.0 0.0.0.255 eq 123 10.1.2.0 0.0.0.255 eq 123
+ permit udp 10.1.1.0 0.0.0.255 10.1.2.0 0.0.0.255 eq 65535
+ permit icmp 10.1.1.0 0.0.0.255 10.1.2.0 0.0.0.255 3 13
+ permit 50 10.1.1.0 0.0.0.255 10.1.2.0 0.0.0.255
+ deny ip any any
+ip access-list extended E2_in
+ permit tcp 10.1.2.0 0.0.0.255 10.1.1.0 0.0.0.255 established
+ permit udp 10.1.2.0 0.0.0.255 eq 123 10.1.1.0 0.0.0.255 eq 123
+ permit udp 10.1.2.0 0.0.0.255 eq 65535 10.1.1.0 0.0.0.255
+ deny ip any any
+interface E1
+ ip access-group E1_in in
+interface E2
+ ip access-group E2_in in
+";
+
+#[test]
+fn several_protocols(rt: HostRuntime) -> Result<(), Fail> {
+    let alloc = rt.alloc();
+    let files = [("a", NETS), ("b", ONE_ROUTER), ("c", PROTOCOLS_SERVICE)];
+    let wanted = Wanted {
+        status: 0,
+        text: "networks 2\nzones 2\nrouters 1\npermits 5\nlocal 0\nlines 10\nroutes 0\n",
+        held: &[("r1", PROTOCOLS_FILE)],
+    };
+    check(&rt, alloc, &files, &wanted)?;
+    Ok(())
+}
+
+const ASA_ROUTER: &str = "\
+router:r1 = {
+ managed;
+ model = ASA;
+ interface:n1 = { ip = 10.1.1.1; hardware = E1; }
+ interface:n2 = { ip = 10.1.2.1; hardware = E2; }
+}
+";
+
+const WEB_SERVICE: &str = "\
+service:s1 = {
+ user = network:n1;
+ permit src = user; dst = network:n2; prt = tcp 80;
+}
+";
+
+const ASA_FILE: &str = "\
+! r1 ASA
+access-list E1_in extended permit tcp 10.1.1.0 255.255.255.0 10.1.2.0 255.255.255.0 eq 80
+access-list E1_in extended deny ip any any
+access-list E2_in extended deny ip any any
+access-group E1_in in interface E1
+access-group E2_in in interface E2
+";
+
+#[test]
+fn a_router_that_keeps_state(rt: HostRuntime) -> Result<(), Fail> {
+    let alloc = rt.alloc();
+    let files = [("a", NETS), ("b", ASA_ROUTER), ("c", WEB_SERVICE)];
+    let wanted = Wanted {
+        status: 0,
+        text: "networks 2\nzones 2\nrouters 1\npermits 1\nlocal 0\nlines 3\nroutes 0\n",
+        held: &[("r1", ASA_FILE)],
+    };
+    check(&rt, alloc, &files, &wanted)?;
+    Ok(())
+}
