@@ -1,6 +1,7 @@
 ghost use Rattle.std.specs.Prelude.{length, ◌≤◌};
 
-use crate::compiling::{Compiled, compile, summary_text};
+use crate::compiling::compile;
+use policy_compile::{Compiled, summary_text};
 use spoc_base::{Fault, Refusal, Source, Text};
 use std::alloc::Global;
 use std::test::Fail;
@@ -65,9 +66,6 @@ fn a_service_within_a_network(rt: HostRuntime) -> Result<(), Fail> {
 
 #[test]
 fn faults(rt: HostRuntime) -> Result<(), Fail> {
-    let asa =
-        b"network:n1 = { ip = 10.1.1.0/24; } router:r1 = { managed; model = ASA; interface:n1 = { ip = 10.1.1.1; hardware = E1; } }";
-    assert!(rt; matches!(compiled(rt.alloc(), asa), Err(Refusal::Policy(Fault::Form))));
     let unknown =
         b"service:s1 = { user = network:n1; permit src = user; dst = network:n3; prt = tcp 80; }";
     assert!(rt;
