@@ -1,5 +1,5 @@
 -- What is left of a limit after some lines and then others; and how many lines a permit and its replies have.
-use Rattle.std.proofs.Common.{◌≡◌, ℕ, ◌+◌, ◌-◌, ◌*◌, ◌<◌, ◌≤◌, Bool, true, false, T, List, [], ◌∷◌, ◌++◌, length, map, drop, get_or, refl, sym, ap, subst, ◌∙◌, ⊎_elim, arith, append-nil, length-append, drop-cons, add-one, is_some, Option, Some, None, if◌then◌else◌}
+use Rattle.std.proofs.Common.{◌≡◌, ℕ, ◌+◌, ◌-◌, ◌*◌, ◌<◌, ◌≤◌, true, T, List, [], ◌∷◌, ◌++◌, length, map, drop, get_or, refl, sym, ap, subst, ◌∙◌, ⊎_elim, arith, append-nil, length-append, drop-cons, add-one, is_some, Option, Some, None, if◌then◌else◌}
 use Rattle.std.specs.Prelude.{flat_map, option_map, option_to_list, slice_index_or, unwrap_or}
 use Rattle.std.proofs.Math.ListN.{get_or-map}
 use Rattle.std.proofs.Math.Nat.{suc-mul, zero-mul}

@@ -5,7 +5,7 @@ use Rattle.policy_model.specs.Zones.{Site}
 use Rattle.policy_model.specs.Tags.{Views}
 use Rattle.policy_model.specs.Permits.{Permit}
 use Rattle.policy_model.specs.Filters.{Line, deny_all}
-use Rattle.policy_model.specs.Blocks.{Block, view_here, placement, block_lines, list_at}
+use Rattle.policy_model.specs.Blocks.{Block, view_here, placement, list_at}
 use Rattle.nat_view.specs.Seen.{Sight}
 use Rattle.acl_build.specs.Pieces.{lines_of_block}
 use Rattle.acl_build.proofs.Placed.{blocks_give}
