@@ -5,6 +5,7 @@
 mod listing;
 mod places;
 mod tables;
+mod viewed;
 mod views;
 
 pub use listing::lists;

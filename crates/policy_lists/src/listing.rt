@@ -3,21 +3,21 @@ ghost use Rattle.policy_model.specs.Policy.{router_at, is_managed};
 ghost use Rattle.policy_laws.specs.Shaped.{IsShaped};
 ghost use Rattle.topology.specs.First.{IsRefusalOf};
 ghost use Rattle.topology.specs.View.{policy_of};
-ghost use Rattle.nat_view.specs.Views.{seen_of};
 ghost use Rattle.permit_set.specs.Shown.{permit_of};
 ghost use Rattle.dev_config.specs.Seen.{lines_of};
 ghost use Rattle.fault_text.specs.Texts.{fault_line};
 ghost use Rattle.policy_outcome.specs.Later.{later_word};
 ghost use Rattle.policy_outcome.specs.Outcome.{after_later, list_for, lists_for, written_for};
 ghost use Rattle.policy_outcome.specs.Found.{meaning_in, pairs_in, IsFound};
+ghost use Rattle.policy_lists.specs.Known.{IsViewed};
 ghost use Rattle.policy_lists.specs.Coming.{ArePlacedFrom};
 
 use crate::places::places_of;
+use crate::viewed::Viewed;
 use crate::views::views_of;
 use acl_build::build;
 use bumpalo::Bump;
 use dev_config::List;
-use nat_view::Views;
 use permit_set::{Permit, Placement};
 use spoc_base::{IfId, NoMemory, Refusal};
 use std::alloc::Global;
@@ -44,29 +44,33 @@ fn is_managed_iface(topo: Topo<'_>, i: IfId) -> bool
 fn list_here<'s>(
     alloc: Global,
     scratch: &'s Bump,
-    topo: Topo<'_>,
-    graph: &ZoneGraph,
-    views: &Views<'_>,
-    permits: &[Permit],
+    viewed: &Viewed<'_>,
     places: &[Placement],
     next: u32,
     i: IfId,
 ) -> Result<(List<'s>, u32), NoMemory>
-    requires found { IsFound topo graph.now (seen_of views.now).views (map permit_of permits.now) }
-    requires policy { (seen_of views.now).policy ≡ policy_of topo }
-    requires shaped { IsShaped (policy_of topo) }
-    requires there { i.0 < length (policy_of topo).ifaces }
+    requires viewed { IsViewed viewed.now }
+    requires there { i.0 < length (policy_of viewed.now.topo).ifaces }
     requires before { next ≤ i.0 }
-    requires places { ArePlacedFrom (meaning_in topo) i.0 (drop next places.now) }
-    ensures list { IfOk result (λ r. lines_of r.0 ≡ list_for (meaning_in topo.entry) i.0) }
+    requires places { ArePlacedFrom (meaning_in viewed.now.topo) i.0 (drop next places.now) }
+    ensures list { IfOk result (λ r. lines_of r.0 ≡ list_for (meaning_in viewed.now.topo) i.0) }
     ensures before { IfOk result (λ r. r.1 ≤ i.0 + 1) }
-    ensures places { IfOk result (λ r. ArePlacedFrom (meaning_in topo.entry) (i.0 + 1) (drop r.1 places.now)) }
+    ensures places { IfOk result (λ r. ArePlacedFrom (meaning_in viewed.now.topo) (i.0 + 1) (drop r.1 places.now)) }
 {
+    let topo = viewed.topo;
     if !is_managed_iface(topo, i) {
         return Ok((List { lines: &[] }, next));
     }
     let place = &places[next as usize];
-    let list = build(alloc, scratch, topo, graph, views, permits, place)?;
+    let list = build(
+        alloc,
+        scratch,
+        topo,
+        viewed.graph,
+        viewed.views,
+        viewed.permits,
+        place,
+    )?;
     Ok((list, next + 1))
 }
 
@@ -84,25 +88,18 @@ fn push_list<'s>(lists: &mut Vec<List<'s>>, list: List<'s>) -> Result<(), NoMemo
 fn lists_of<'s>(
     alloc: Global,
     scratch: &'s Bump,
-    topo: Topo<'_>,
-    graph: &ZoneGraph,
-    views: &Views<'_>,
-    permits: &[Permit],
+    viewed: &Viewed<'_>,
     places: &[Placement],
 ) -> Result<Vec<List<'s>>, NoMemory>
-    requires found { IsFound topo graph.now (seen_of views.now).views (map permit_of permits.now) }
-    requires policy { (seen_of views.now).policy ≡ policy_of topo }
-    requires shaped { IsShaped (policy_of topo) }
-    requires places { ArePlacedFrom (meaning_in topo) 0 places.now }
-    ensures { IfOk result (λ lists. map lines_of lists.items ≡ lists_for (meaning_in topo.entry)) }
+    requires viewed { IsViewed viewed.now }
+    requires places { ArePlacedFrom (meaning_in viewed.now.topo) 0 places.now }
+    ensures { IfOk result (λ lists. map lines_of lists.items ≡ lists_for (meaning_in viewed.now.topo)) }
 {
     let mut lists = Vec::new(alloc);
     let mut next = 0;
-    for i in 0..iface_count(topo) {
+    for i in 0..iface_count(viewed.topo) {
         let i = IfId(i);
-        let (list, after) = list_here(
-            alloc, scratch, topo, graph, views, permits, places, next, i,
-        )?;
+        let (list, after) = list_here(alloc, scratch, viewed, places, next, i)?;
         push_list(&mut lists, list)?;
         next = after;
     }
@@ -127,7 +124,13 @@ pub fn lists<'s>(
     ensures refused { IfErr result (IsRefusalOf (λ fault. after_later (pairs_in topo.entry) (meaning_in topo.entry) ≡ Err (fault_line (pairs_in topo.entry) fault))) }
 {
     let views = views_of(alloc, topo, graph, tags, permits)?;
-    let places = places_of(alloc, topo, graph, &views, permits)?;
-    let lists = lists_of(alloc, scratch, topo, graph, &views, permits, &places)?;
+    let viewed = Viewed {
+        topo,
+        graph,
+        views: &views,
+        permits,
+    };
+    let places = places_of(alloc, &viewed)?;
+    let lists = lists_of(alloc, scratch, &viewed, &places)?;
     Ok(lists)
 }

@@ -1,20 +1,16 @@
-ghost use Rattle.std.specs.Prelude.{◌≡◌, map, None, IfOk};
+ghost use Rattle.std.specs.Prelude.{◌≡◌, map, IfOk};
 ghost use Rattle.policy_model.specs.Blocks.{zone_pairs as pairs_of_zones};
-ghost use Rattle.policy_model.specs.Headline.{permits_in};
-ghost use Rattle.policy_laws.specs.Shaped.{IsShaped};
 ghost use Rattle.topology.specs.View.{policy_of};
 ghost use Rattle.zone_graph.specs.Grouped.{IsGraphOf};
 ghost use Rattle.nat_view.specs.Views.{seen_of};
 ghost use Rattle.permit_set.specs.Shown.{permit_of};
 ghost use Rattle.rule_distribute.specs.Given.{site_with};
 ghost use Rattle.rule_distribute.specs.Paths.{HaveMarks};
-ghost use Rattle.policy_outcome.specs.Later.{later_word};
-ghost use Rattle.policy_outcome.specs.Found.{IsFound};
+ghost use Rattle.policy_lists.specs.Known.{site_in, IsViewed};
 ghost use Rattle.policy_lists.specs.Marked.{zones_seen, IsMarked};
 
-use nat_view::Views;
+use crate::viewed::Viewed;
 use path_walk::plain_marks;
-use permit_set::Permit;
 use rule_distribute::zone_pairs;
 use spoc_base::{NoMemory, ZoneId};
 use std::alloc::Global;
@@ -57,19 +53,12 @@ fn tables_for(
 }
 
 /// The marks of all walks on which the lists depend.
-pub(crate) fn tables_of(
-    alloc: Global,
-    topo: Topo<'_>,
-    graph: &ZoneGraph,
-    views: &Views<'_>,
-    permits: &[Permit],
-) -> Result<Vec<PairMarks>, NoMemory>
-    requires found { IsFound topo graph.now (seen_of views.now).views (map permit_of permits.now) }
-    requires policy { (seen_of views.now).policy ≡ policy_of topo }
-    requires later { later_word (policy_of topo) ≡ None }
-    requires shaped { IsShaped (policy_of topo) }
-    ensures { IfOk result (λ tables. HaveMarks (site_with (policy_of topo.entry) graph.now) (pairs_of_zones (site_with (policy_of topo.entry) graph.now) (seen_of views.now).views (map permit_of permits.now)) tables.items) }
+pub(crate) fn tables_of(alloc: Global, viewed: &Viewed<'_>) -> Result<Vec<PairMarks>, NoMemory>
+    requires { IsViewed viewed.now }
+    ensures { IfOk result (λ tables. HaveMarks (site_in viewed.now) (pairs_of_zones (site_in viewed.now) (seen_of viewed.now.views.now).views (map permit_of viewed.now.permits.now)) tables.items) }
 {
-    let pairs = zone_pairs(alloc, topo, graph, views, permits)?;
+    let topo = viewed.topo;
+    let graph = viewed.graph;
+    let pairs = zone_pairs(alloc, topo, graph, viewed.views, viewed.permits)?;
     tables_for(alloc, topo, graph, &pairs)
 }

@@ -7,6 +7,6 @@ use Rattle.policy_lists.proofs.listing.lists_of.Given as goal
 abbrev pub invariant-loop-i : goal.invariant-loop-i
 invariant-loop-i l = record {
   before : l.next ≤ l.i;
-  listed : AreListed (meaning_in l.topo) l.i l.lists.items;
-  places : ArePlacedFrom (meaning_in l.topo) l.i (drop l.next l.places);
+  listed : AreListed (meaning_in l.viewed.topo) l.i l.lists.items;
+  places : ArePlacedFrom (meaning_in l.viewed.topo) l.i (drop l.next l.places);
 }

@@ -12,31 +12,31 @@ use Rattle.policy_lists.proofs.places.places_of.Goals as goal
 
 pub distribute-requires-clause-zones : goal.distribute-requires-clause-zones
 distribute-requires-clause-zones c =
-    let found = c.requires.found in zones_sized (policy_of c.args.topo) c.args.graph.now (seen_of c.args.views.now).views found.zoned.is_graph found.zoned.site found.views
+    let found = c.requires.found in zones_sized (policy_of c.args.viewed.now.topo) c.args.viewed.now.graph.now (seen_of c.args.viewed.now.views.now).views found.zoned.is_graph found.zoned.site found.views
 
 pub distribute-requires-clause-permits : goal.distribute-requires-clause-permits
-distribute-requires-clause-permits c = are_permits (policy_of c.args.topo) c.args.topo.kept.sound c.requires.shaped (map permit_of c.args.permits.now) c.requires.found.expanded
+distribute-requires-clause-permits c = are_permits (policy_of c.args.viewed.now.topo) c.args.viewed.now.topo.kept.sound c.requires.shaped (map permit_of c.args.viewed.now.permits.now) c.requires.found.expanded
 
 pub distribute-requires-clause-apart : goal.distribute-requires-clause-apart
-distribute-requires-clause-apart c = are_apart (policy_of c.args.topo) c.args.graph.now (seen_of c.args.views.now).views c.requires.later
+distribute-requires-clause-apart c = are_apart (policy_of c.args.viewed.now.topo) c.args.viewed.now.graph.now (seen_of c.args.viewed.now.views.now).views c.requires.later
 
 pub returns-clause-places : goal.returns-clause-places
 returns-clause-places c =
     let found = c.requires.found in
     IfOk-weaker c.distribute.result _ _
-    (λ places e. placed_from_start (meaning_in c.args.topo) (site_with (policy_of c.args.topo) c.args.graph.now) (seen_of c.args.views.now).views (map permit_of c.args.permits.now)
+    (λ places e. placed_from_start (meaning_in c.args.viewed.now.topo) (site_with (policy_of c.args.viewed.now.topo) c.args.viewed.now.graph.now) (seen_of c.args.viewed.now.views.now).views (map permit_of c.args.viewed.now.permits.now)
     found.zoned.site found.views found.expanded places.items e) c.distribute.ensures.placed
 
 pub returns-clause-clear : goal.returns-clause-clear
 returns-clause-clear c =
     let found = c.requires.found in
     IfOk-weaker c.distribute.result _ _
-    (λ places. walks_clear (sources_of c.args.topo) (policy_of c.args.topo) c.args.topo.kept.sound c.requires.later (site_with (policy_of c.args.topo) c.args.graph.now) (seen_of c.args.views.now).views
-    (map permit_of c.args.permits.now) found.zoned.site found.views found.expanded) c.distribute.ensures.clear
+    (λ places. walks_clear (sources_of c.args.viewed.now.topo) (policy_of c.args.viewed.now.topo) c.args.viewed.now.topo.kept.sound c.requires.later (site_with (policy_of c.args.viewed.now.topo) c.args.viewed.now.graph.now) (seen_of c.args.viewed.now.views.now).views
+    (map permit_of c.args.viewed.now.permits.now) found.zoned.site found.views found.expanded) c.distribute.ensures.clear
 
 pub returns-clause-refused : goal.returns-clause-refused
 returns-clause-refused c =
     let found = c.requires.found in
     IfErr-weaker c.distribute.result _ _
-    (walks_refused (sources_of c.args.topo) (policy_of c.args.topo) c.args.topo.kept.sound c.requires.later (site_with (policy_of c.args.topo) c.args.graph.now) (seen_of c.args.views.now).views
-    (map permit_of c.args.permits.now) found.zoned.site found.views found.expanded) c.distribute.ensures.refused
+    (walks_refused (sources_of c.args.viewed.now.topo) (policy_of c.args.viewed.now.topo) c.args.viewed.now.topo.kept.sound c.requires.later (site_with (policy_of c.args.viewed.now.topo) c.args.viewed.now.graph.now) (seen_of c.args.viewed.now.views.now).views
+    (map permit_of c.args.viewed.now.permits.now) found.zoned.site found.views found.expanded) c.distribute.ensures.refused
