@@ -1,0 +1,6 @@
+pub mod Remainder
+pub mod Ends
+pub mod Premises
+pub mod Marks
+pub mod Refusals
+pub mod Interfaces

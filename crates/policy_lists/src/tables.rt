@@ -1,0 +1,64 @@
+ghost use Rattle.std.specs.Prelude.{◌≡◌, map, IfOk};
+ghost use Rattle.policy_model.specs.Blocks.{zone_pairs as pairs_of_zones};
+ghost use Rattle.topology.specs.View.{policy_of};
+ghost use Rattle.zone_graph.specs.Grouped.{IsGraphOf};
+ghost use Rattle.nat_view.specs.Views.{seen_of};
+ghost use Rattle.permit_set.specs.Shown.{permit_of};
+ghost use Rattle.rule_distribute.specs.Given.{site_with};
+ghost use Rattle.rule_distribute.specs.Paths.{HaveMarks};
+ghost use Rattle.policy_lists.specs.Known.{site_in, IsViewed};
+ghost use Rattle.policy_lists.specs.Marked.{zones_seen, IsMarked};
+
+use crate::viewed::Viewed;
+use path_walk::plain_marks;
+use rule_distribute::zone_pairs;
+use spoc_base::{NoMemory, ZoneId};
+use std::alloc::Global;
+use topology::Topo;
+use zone_graph::{PairMarks, ZoneGraph};
+
+// The marks of the walks from one zone to another.
+fn table_of(
+    alloc: Global,
+    topo: Topo<'_>,
+    graph: &ZoneGraph,
+    from: ZoneId,
+    to: ZoneId,
+) -> Result<PairMarks, NoMemory>
+    requires { IsGraphOf (policy_of topo) graph.now }
+    ensures from { IfOk result (λ table. table.from.0 ≡ from.0) }
+    ensures to { IfOk result (λ table. table.to.0 ≡ to.0) }
+    ensures marks { IfOk result (λ table. IsMarked (site_with (policy_of topo.entry) graph.now) table) }
+{
+    let marks = plain_marks(alloc, topo, graph, from, to)?;
+    Ok(PairMarks { from, to, marks })
+}
+
+// The marks of the walks of each of these pairs of zones.
+fn tables_for(
+    alloc: Global,
+    topo: Topo<'_>,
+    graph: &ZoneGraph,
+    pairs: &[(ZoneId, ZoneId)],
+) -> Result<Vec<PairMarks>, NoMemory>
+    requires { IsGraphOf (policy_of topo) graph.now }
+    ensures { IfOk result (λ tables. HaveMarks (site_with (policy_of topo.entry) graph.now) (map zones_seen pairs.now) tables.items) }
+{
+    let mut tables = Vec::new(alloc);
+    for pair in pairs {
+        let table = table_of(alloc, topo, graph, pair.0, pair.1)?;
+        tables.push(table)?;
+    }
+    Ok(tables)
+}
+
+/// The marks of all walks on which the lists depend.
+pub(crate) fn tables_of(alloc: Global, viewed: &Viewed<'_>) -> Result<Vec<PairMarks>, NoMemory>
+    requires { IsViewed viewed.now }
+    ensures { IfOk result (λ tables. HaveMarks (site_in viewed.now) (pairs_of_zones (site_in viewed.now) (seen_of viewed.now.views.now).views (map permit_of viewed.now.permits.now)) tables.items) }
+{
+    let topo = viewed.topo;
+    let graph = viewed.graph;
+    let pairs = zone_pairs(alloc, topo, graph, viewed.views, viewed.permits)?;
+    tables_for(alloc, topo, graph, &pairs)
+}
