@@ -1,6 +1,6 @@
 -- Interface by interface: what is placed there, and what is left of the limit of lines.
 use Rattle.std.proofs.Common.{◌≡◌, ◌∙◌, ℕ, ◌+◌, ◌-◌, ◌<◌, ◌≤◌, Bool, true, false, cond, List, [], ◌∷◌, ◌++◌, length, map, take, refl, sym, ap, subst, ⊎_elim, arith, get_or}
-use Rattle.std.specs.Prelude.{Option, Some, None, nat_le, sum, filter, IsTrue}
+use Rattle.std.specs.Prelude.{Option, Some, None, nat_le, sum}
 use Rattle.std.specs.List.{sum_by}
 use Rattle.std.proofs.lemmas.Bool.{leb-true, le-leb, false≢true, cases_lt}
 use Rattle.std.proofs.lemmas.List.{take_all, map_push, map_more}
@@ -121,7 +121,7 @@ pub are_known : (p : Policy) (permits : List Permit) → ArePermits p permits �
 are_known p permits given =
     record {
       each = λ k h. record {
-            src_end = record { there = given.srcs k h; within = (given.ends k h).0 };
-            dst_end = record { there = given.dsts k h; within = (given.ends k h).1 };
-          };
+        src_end = record { there = given.srcs k h; within = (given.ends k h).0 };
+        dst_end = record { there = given.dsts k h; within = (given.ends k h).1 };
+      };
     }

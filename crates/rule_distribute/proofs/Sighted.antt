@@ -1,18 +1,16 @@
 -- What a policy in memory shows of its networks: none is hidden, and prefixes keep their lengths.
 use Rattle.std.proofs.Common.{◌≡◌, ℕ, ◌<◌, ◌≤◌, ◌⊎◌, inl, inr, Bool, true, false, cond, List, [], ◌∷◌, length, map, refl, sym, ap, subst, ◌∙◌, ⊎_elim, arith, slice_index_or}
-use Rattle.std.specs.Prelude.{Option, Some, None, option_map, unwrap_or, find, is_none, IsTrue}
-use Rattle.std.specs.List.{list_all}
+use Rattle.std.specs.Prelude.{Option, Some, option_map, unwrap_or, find, is_none}
 use Rattle.std.proofs.lemmas.Bool.{cases_lt}
-use Rattle.std.proofs.lemmas.List.{get_or-map, get_or_past, get_or_default, length-map}
+use Rattle.std.proofs.lemmas.List.{get_or-map, get_or_past, length-map}
 use Rattle.spoc_base.specs.Address.{Cidr}
 use Rattle.spoc_base.specs.Shown.{cidr_of}
 use Rattle.spoc_base.specs.declared.address.Prefix.{Prefix}
 use Rattle.spoc_base.specs.declared.ids.TagId.{TagId}
 use Rattle.policy_model.specs.Lists.{has}
-use Rattle.policy_model.specs.Policy.{Policy, Net, no_net, net_of}
+use Rattle.policy_model.specs.Policy.{Net, no_net, net_of}
 use Rattle.policy_model.specs.Places.{prefix_in}
 use Rattle.topology.specs.Seen.{net_seen}
-use Rattle.topology.specs.Sound.{keeps_length}
 use Rattle.topology.specs.View.{policy_of, sources_of}
 use Rattle.topology.specs.declared.items.Network.{Network}
 use Rattle.topology.specs.declared.topo.Topo.{Topo}

@@ -1,6 +1,6 @@
 -- A pair lacks a walk just where a permit has no path.
-use Rattle.std.proofs.Common.{◌≡◌, ℕ, ◌<◌, ◌≤◌, inl, inr, Bool, true, false, cond, not, ◌&&◌, ◌||◌, List, [], ◌∷◌, length, refl, sym, ap, subst, ◌∙◌, ⊎_elim, arith, slice_index, slice_index_or}
-use Rattle.std.specs.Prelude.{◌==◌, filter}
+use Rattle.std.proofs.Common.{◌≡◌, ℕ, ◌<◌, ◌≤◌, inl, Bool, true, false, not, ◌&&◌, ◌||◌, List, [], ◌∷◌, length, refl, sym, ap, subst, ◌∙◌, ⊎_elim, arith, slice_index}
+use Rattle.std.specs.Prelude.{◌==◌}
 use Rattle.std.specs.List.{list_any}
 use Rattle.std.proofs.lemmas.Bool.{false≢true, cases_lt, and_parts, and_from, or_left, eqb-true, eq-eqb, not-true, false_from_ne_true}
 use Rattle.std.proofs.lemmas.List.{get_or_default}
@@ -16,7 +16,7 @@ use Rattle.rule_distribute.specs.Given.{ArePermits}
 use Rattle.rule_distribute.specs.Lacking.{lacks_walk, IsFirstLacking, NoneLacks}
 use Rattle.rule_distribute.specs.Pairs.{IsBefore}
 use Rattle.rule_distribute.specs.Placed.{Pairs, row_at, HaveRows, ArePairsOf}
-use Rattle.rule_distribute.specs.Rows.{pair_at, ends_of, same_pair, belongs, row_below}
+use Rattle.rule_distribute.specs.Rows.{pair_at, ends_of, same_pair, belongs}
 use Rattle.rule_distribute.proofs.Rising.{contains_in, in_contains}
 use Rattle.rule_distribute.proofs.ZonePairs.{below_count}
 use Rattle.rule_distribute.proofs.NetPairs.{ends_there, listed, by}
@@ -89,7 +89,7 @@ module _ (s : Site) (permits : List Permit) (j : Pairs) (given : ArePermits s.po
       let differ = (and_parts (not (slice_index s.zones q.src.net == slice_index s.zones q.dst.net)) (not false || has_replies q.box) a.0).0 in
       let ends = and_parts (q.src.net == e.0) (q.dst.net == e.1) a.1 in
       let none = ap (λ n. is_nothing (allowed_walks s (zone_of s n) (zone_of s q.dst.net))) (eqb-true q.src.net e.0 ends.0)
-          ∙ (ap (λ n. is_nothing (allowed_walks s (zone_of s e.0) (zone_of s n))) (eqb-true q.dst.net e.1 ends.1) ∙ p.1) in
+      ∙ (ap (λ n. is_nothing (allowed_walks s (zone_of s e.0) (zone_of s n))) (eqb-true q.dst.net e.1 ends.1) ∙ p.1) in
       some_of (is_at s e.0 e.1) q permits (contains_in permits q (k.0, there, get_or_default permits k.0 q no_permit there)) (and_from _ _ a.1 (and_from _ _ differ none))
 
   -- the pairs of permits without a path, in order

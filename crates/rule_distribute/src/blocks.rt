@@ -69,7 +69,12 @@ fn row_of(alloc: Global, rows: &[Vec<u32>], w: usize, told: bool) -> Result<Vec<
 }
 
 /// The block of a pair.
-pub(crate) fn block(alloc: Global, joined: &Joined, told: bool, w: usize) -> Result<PairBlock, NoMemory>
+pub(crate) fn block(
+    alloc: Global,
+    joined: &Joined,
+    told: bool,
+    w: usize,
+) -> Result<PairBlock, NoMemory>
     requires below { w < length joined.now.pairs.items }
     requires forward { length joined.now.forward.items ≡ length joined.now.pairs.items }
     requires replied { length joined.now.replied.items ≡ length joined.now.pairs.items }

@@ -126,7 +126,8 @@ pub fn distribute(
         return Err(Refusal::Policy(no_path_fault(topo, pair)));
     }
     let rows = path_rows(alloc, topo, graph, &joined.pairs, &names, tables)?;
-    match place_all(alloc, topo, graph, views, permits, &joined, &rows)? {
+    let placed = place_all(alloc, topo, graph, views, permits, &joined, &rows)?;
+    match placed {
         Some(places) => Ok(places),
         None => Err(Refusal::Policy(Fault::LimitLines)),
     }

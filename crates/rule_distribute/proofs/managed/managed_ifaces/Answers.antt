@@ -1,4 +1,4 @@
-use Rattle.std.proofs.Common.{◌≡◌, ◌∙◌, ℕ, Bool, ◌++◌, ◌∷◌, [], cond, sym, ap}
+use Rattle.std.proofs.Common.{◌∙◌, ℕ, Bool, ◌++◌, ◌∷◌, [], cond, sym, ap}
 use Rattle.policy_model.specs.Policy.{router_at, is_managed}
 use Rattle.topology.specs.View.{policy_of}
 use Rattle.rule_distribute.proofs.Filled.{filter_next}

@@ -1,4 +1,6 @@
-use Rattle.std.proofs.Common.{◌≡◌, ◌∙◌, map, subst, sym}
+use Rattle.std.proofs.Common.{◌∙◌, ◌<◌, ◌≤◌, map, subst, sym}
+use Rattle.std.specs.Prelude.{IfSome, IfNone}
+use Rattle.policy_model.specs.FirstFault.{line_count, most_items}
 use Rattle.topology.specs.View.{policy_of, sources_of}
 use Rattle.nat_view.specs.Views.{seen_of}
 use Rattle.permit_set.specs.Shown.{permit_of}
@@ -55,11 +57,11 @@ pub path_rows-requires-clause-named : goal.path_rows-requires-clause-named
 path_rows-requires-clause-named c =
     let s = site_with (policy_of c.args.topo) c.args.graph.now in
     let named = are_named s (map permit_of c.args.permits.now) (pairs_seen c.in_ok-joined.joined) (c.in_ok-joined.ensures {u = tt}) (seen_of c.args.views.now).views c.deref-3.result.now c.requires.graph.table
-        c.requires.permits c.requires.apart (c.deref-3.ensures.value ∙ (c.in_ok-names.ensures {u = tt} ∙ c.requires.marks.names)) in
+    c.requires.permits c.requires.apart (c.deref-3.ensures.value ∙ (c.in_ok-names.ensures {u = tt} ∙ c.requires.marks.names)) in
     subst (λ ps. AreNamed s ps c.deref-3.result.now) (sym c.deref-2.ensures.value) named
 
-pub returns-in-Some-2-clause-clear : goal.returns-in-Some-2-clause-clear
-returns-in-Some-2-clause-clear c =
+pub returns-in-Some-placed-clause-clear : goal.returns-in-Some-placed-clause-clear
+returns-in-Some-placed-clause-clear c =
     let s = site_with (policy_of c.args.topo) c.args.graph.now in
     let permits = map permit_of c.args.permits.now in
     let j = pairs_seen c.in_ok-joined.joined in
@@ -67,7 +69,7 @@ returns-in-Some-2-clause-clear c =
     (record {
       shown = none_hidden c.args.topo s.zones;
       paths = none_without s permits j c.requires.permits (c.in_ok-joined.ensures {u = tt}) c.in_default.ensures.none;
-      few = c.in-Some-2.ensures.within;
+      few = subst (λ placed. IfSome placed (λ places. line_count s (seen_of c.args.views.now).views permits ≤ most_items)) c.in-Some-placed.is (c.in_ok-placed.ensures {u = tt}).within;
     })
 
 pub returns-clause-refused : goal.returns-clause-refused
@@ -79,5 +81,5 @@ returns-clause-refused c =
     (record {
       shown = none_hidden c.args.topo s.zones;
       paths = none_without s permits j c.requires.permits (c.in_ok-joined.ensures {u = tt}) c.in_default.ensures.none;
-      many = c.in-None.ensures.over;
+      many = subst (λ placed. IfNone placed (most_items < line_count s (seen_of c.args.views.now).views permits)) c.in-None.is (c.in_ok-placed.ensures {u = tt}).over;
     })

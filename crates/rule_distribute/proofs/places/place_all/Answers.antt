@@ -88,7 +88,7 @@ loop-i-preserved c =
     let there = id_below p items k x (ap (map (λ (i : IfId). i.0)) c.deref-i-items.ensures.value ∙ c.in_ok-ifaces.ensures {u = tt}) below is in
     let iface = (c.in_ok-place.ensures {u = tt}).iface in
     let blocks = placed_there s v permits x.0 (pairs_seen c.args.joined.now) (map block_seen c.in_ok-place.place.pairs) c.requires.graph.table c.requires.permits c.requires.apart c.requires.joined (shown c.args.topo)
-        c.args.topo.kept.sound.numbered there (c.in_ok-place.ensures {u = tt}).blocks in
+    c.args.topo.kept.sound.numbered there (c.in_ok-place.ensures {u = tt}).blocks in
     let seen : ◌≡◌ {A = ℕ × List Block} (placed_seen c.in_ok-place.place) (x.0, placement s v permits x.0) = tuple_same iface blocks in
     record {
       placed = ap (map placed_seen) (c.in-Ok.ensures {u = tt}) ∙ one_placed s v permits placed_seen c.loop-i.places.items c.in_ok-place.place items k x below is seen c.loop-i.invariant.placed;
