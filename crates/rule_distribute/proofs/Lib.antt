@@ -1,0 +1,17 @@
+pub mod Rising
+pub mod Tuples
+pub mod Ends
+pub mod Filled
+pub mod Entering
+pub mod Marks
+pub mod Nth
+pub mod PathRows
+pub mod Placing
+pub mod Buckets
+pub mod ZonePairs
+pub mod NetPairs
+pub mod Joining
+pub mod Walkless
+pub mod FirstWalk
+pub mod Sighted
+pub mod Limited

@@ -1,0 +1,345 @@
+-- The blocks from rows are those that are defined.
+use Rattle.std.proofs.Common.{◌≡◌, ℕ, suc, ◌+◌, ◌-◌, ◌<◌, ◌≤◌, inl, inr, Bool, true, false, cond, not, ◌&&◌, ◌||◌, List, [], ◌∷◌, ◌++◌, length, map, flat_map, refl, sym, ap, subst, ◌∙◌, ⊎_elim, arith, slice_index_or}
+use Rattle.std.specs.Prelude.{◌==◌, Some, is_some, filter, slice_index}
+use Rattle.std.specs.List.{list_any, range_with_len, enumerate_from}
+use Rattle.std.specs.Option.{option_map_or}
+use Rattle.std.proofs.lemmas.Bool.{both_ways as both_truths, and_parts, and_from, and_left, or_cases, or_left, or_right, or_from, eqb-true, eq-eqb, not-true, not_from_false, false_from_ne_true, false≢true}
+use Rattle.std.proofs.lemmas.List.{get_or_default}
+use Rattle.std.proofs.lemmas.List.Concat.{flat_map-cons}
+use Rattle.std.proofs.lemmas.List.FromFn.{fill_by_all}
+use Rattle.spoc_base.specs.Address.{Cidr}
+use Rattle.policy_model.specs.Lists.{numbers_below, pairs_of, is_nothing}
+use Rattle.policy_model.specs.Policy.{Policy, net_of, all_nets}
+use Rattle.policy_model.specs.Zones.{Site, IsSite, zone_of, zone_at, zone_count}
+use Rattle.policy_model.specs.Tags.{Views}
+use Rattle.policy_model.specs.Places.{prefix_in, length_in}
+use Rattle.policy_model.specs.Permits.{Permit, has_replies}
+use Rattle.policy_model.specs.Walks.{is_allowed_walk, all_paths, allowed_walks}
+use Rattle.policy_model.specs.Blocks.{NetPair, Block, all_pairs, is_ios_at, is_on_path, pairs_on_path, places_where, permit_at, no_permit, permits_between, replied_between, is_round, is_seen, view_here, pair_lines, encloses, reaches_into, is_closed, block_of, is_needed, depth_of, placement, is_joined, is_joined_pair}
+use Rattle.policy_model.proofs.AllWalks.{IsIn, in_map, parts_of}
+use Rattle.rule_distribute.proofs.Rising.{contains_in}
+use Rattle.list_laws.proofs.Members.{from_filter, filter_same, some_in, some_of, same_truth}
+use Rattle.rule_distribute.specs.Apart.{AreApart}
+use Rattle.rule_distribute.specs.Given.{ArePermits}
+use Rattle.rule_distribute.specs.Paths.{is_on_way, path_row}
+use Rattle.rule_distribute.specs.Placed.{Pairs, row_at, block_at, is_filled, shallow, is_in_bucket, bucket, placed}
+use Rattle.rule_distribute.specs.Rows.{pair_at, ends_of, same_pair, belongs, row_below}
+use Rattle.rule_distribute.proofs.ZonePairs.{pair_there, round_is_same, below_count}
+
+-- ---- lists
+
+pub filter_map : {A B : Type 0} (test : B → Bool) (f : A → B) (xs : List A) → filter test (map f xs) ≡ map f (filter (λ x. test (f x)) xs)
+filter_map test f [] = refl
+filter_map test f (x ∷ xs) = ap (λ ys. cond (test (f x)) (f x ∷ ys) ys) (filter_map test f xs) ∙ at (test (f x))
+  where
+    at : (b : Bool) → cond b (f x ∷ map f (filter (λ x. test (f x)) xs)) (map f (filter (λ x. test (f x)) xs)) ≡ map f (cond b (x ∷ filter (λ x. test (f x)) xs) (filter (λ x. test (f x)) xs))
+    at true = refl
+    at false = refl
+
+pub filter_twice : {A : Type 0} (p q : A → Bool) (xs : List A) → filter q (filter p xs) ≡ filter (λ x. p x && q x) xs
+filter_twice p q [] = refl
+filter_twice p q (x ∷ xs) = at (p x) (q x) refl (filter_twice p q xs)
+  where
+    at : (b c : Bool) → q x ≡ c → filter q (filter p xs) ≡ filter (λ x. p x && q x) xs → filter q (cond b (x ∷ filter p xs) (filter p xs)) ≡ cond (b && c) (x ∷ filter (λ x. p x && q x) xs) (filter (λ x. p x && q x) xs)
+    at true c e ih = ap (λ (d : Bool). cond d (x ∷ filter q (filter p xs)) (filter q (filter p xs))) e ∙ ap (λ ys. cond c (x ∷ ys) ys) ih
+    at false c e ih = ih
+
+map_same : {A B : Type 0} (f g : A → B) (xs : List A) → ((x : A) → IsIn x xs → f x ≡ g x) → map f xs ≡ map g xs
+map_same f g [] h = refl
+map_same f g (x ∷ xs) h = ap (λ y. y ∷ map f xs) (h x (inl refl)) ∙ ap (λ ys. g x ∷ ys) (map_same f g xs (λ y i. h y (inr i)))
+
+map_map : {A B C : Type 0} (f : B → C) (g : A → B) (xs : List A) → map f (map g xs) ≡ map (λ x. f (g x)) xs
+map_map f g [] = refl
+map_map f g (x ∷ xs) = ap (λ ys. f (g x) ∷ ys) (map_map f g xs)
+
+pub flat_map_same : {A B : Type 0} (f g : A → List B) (xs : List A) → ((x : A) → IsIn x xs → f x ≡ g x) → flat_map f xs ≡ flat_map g xs
+flat_map_same f g [] h = refl
+flat_map_same f g (x ∷ xs) h =
+    flat_map-cons f x xs ∙ (ap (λ ys. ys ++ flat_map f xs) (h x (inl refl)) ∙ (ap (λ ys. g x ++ ys) (flat_map_same f g xs (λ y i. h y (inr i))) ∙ sym (flat_map-cons g x xs)))
+
+-- ---- the numbers of the permits that pass
+
+numbered : {A : Type 0} (test : A → Bool) (F : ℕ → Bool) (d : A) (a : ℕ) (xs : List A) → ((k : ℕ) → k < length xs → F (a + k) ≡ test (slice_index_or xs k d)) →
+    map (λ (e : ℕ × A). e.0) (filter (λ (e : ℕ × A). test e.1) (enumerate_from a xs)) ≡ filter F (range_with_len a (length xs))
+numbered test F d a [] h = refl
+numbered {A} test F d a (x ∷ xs) h =
+    let head : F a ≡ test x = ap F (let e : a ≡ a + 0 = omega arith in e) ∙ h 0 (omega arith) in
+    at (test x) (F a) head
+    (numbered test F d (a + 1) xs (λ k below. ap F (let e : a + 1 + k ≡ a + suc k = omega arith in e) ∙ h (suc k) (omega (arith, below))))
+  where
+    at : (b c : Bool) → c ≡ b → map (λ (e : ℕ × A). e.0) (filter (λ (e : ℕ × A). test e.1) (enumerate_from (a + 1) xs)) ≡ filter F (range_with_len (a + 1) (length xs)) →
+        map (λ (e : ℕ × A). e.0) (cond b ((a, x) ∷ filter (λ (e : ℕ × A). test e.1) (enumerate_from (a + 1) xs)) (filter (λ (e : ℕ × A). test e.1) (enumerate_from (a + 1) xs))) ≡ cond c (a ∷ filter F (range_with_len (a + 1) (length xs))) (filter F (range_with_len (a + 1) (length xs)))
+    at true true e ih = ap (λ ys. a ∷ ys) ih
+    at true false e ih = absurd (false≢true e)
+    at false true e ih = absurd (false≢true (sym e))
+    at false false e ih = ih
+
+pub places_are : (test : Permit → Bool) (permits : List Permit) → places_where test permits ≡ filter (λ k. test (permit_at permits k)) (numbers_below (length permits))
+places_are test permits = numbered test (λ k. test (permit_at permits k)) no_permit 0 permits (λ k h. ap (λ n. test (permit_at permits n)) (let e : 0 + k ≡ k = omega arith in e))
+
+-- ---- the pairs' blocks
+
+abbrev named : ℕ × ℕ → NetPair
+named e = record { src = e.0; dst = e.1 }
+
+-- A network's prefix in the view is there, and has the length of its own.
+pub record IsShown (p : Policy) (view : List ℕ) (n : ℕ) : Type 0 where
+  pub prefix : Cidr
+  pub is : prefix_in p view n ≡ Some prefix
+  pub length_is : prefix.len ≡ (net_of p n).own.len
+  pub short : (net_of p n).own.len ≤ 32
+
+pair_from : (a b : ℕ × ℕ) → a.0 ≡ b.0 → a.1 ≡ b.1 → same_pair a b ≡ true
+pair_from a b e f = and_from (a.0 == b.0) (a.1 == b.1) (eq-eqb a.0 b.0 e) (eq-eqb a.1 b.1 f)
+
+-- what is kept for an interface
+pub record AreKept (s : Site) (v : Views) (permits : List Permit) (i : ℕ) (j : Pairs) : Type 0 where
+  pub pairs : j.pairs ≡ filter (λ e. is_joined_pair s permits (record { src = e.0; dst = e.1 })) (pairs_of (all_nets s.policy) (all_nets s.policy))
+  pub forward : (w : ℕ) → w < length j.pairs → row_at j.forward w ≡ row_below s.zones j.pairs false permits (length permits) w
+  pub replied : (w : ℕ) → w < length j.pairs → row_at j.replied w ≡ row_below s.zones j.pairs true permits (length permits) w
+  pub shown : (n : ℕ) → n < length s.policy.nets → IsShown s.policy (view_here s v permits i) n
+  pub zone : zone_at s i < zone_count s
+
+module _ (s : Site) (v : Views) (permits : List Permit) (i : ℕ) (j : Pairs) (site : IsSite s) (given : ArePermits s.policy permits) (apart : AreApart s v) (kept : AreKept s v permits i j) where
+  abbrev all : List (ℕ × ℕ)
+  all = pairs_of (all_nets s.policy) (all_nets s.policy)
+
+  abbrev wanted : ℕ × ℕ → Bool
+  wanted e = is_joined_pair s permits (record { src = e.0; dst = e.1 })
+
+  abbrev told : Bool
+  told = is_ios_at s.policy i
+
+  abbrev block_for : ℕ × ℕ → Block
+  block_for e = block_of s v permits i (named e)
+
+  all_named : all_pairs s.policy ≡ map named all
+  all_named = refl
+
+  -- nothing is closed
+  not_closed : (e : NetPair) → IsIn e (all_pairs s.policy) → is_closed s v permits i e ≡ false
+  not_closed e h =
+      none (λ outer. encloses s v permits i outer e && list_any (reaches_into s v permits i e) (pair_lines s v permits i outer)) (pairs_on_path s i)
+      (λ outer k.
+      let there = from_filter (is_on_path s i) outer (all_pairs s.policy) k in
+      and_left (encloses s v permits i outer e) (list_any (reaches_into s v permits i e) (pair_lines s v permits i outer)) (apart_from outer there.0))
+    where
+      none : {A : Type 0} (test : A → Bool) (xs : List A) → ((x : A) → IsIn x xs → test x ≡ false) → list_any test xs ≡ false
+      none test [] h = refl
+      none test (x ∷ xs) h = or_from (test x) (list_any test xs) (h x (inl refl)) (none test xs (λ y i. h y (inr i)))
+
+      apart_from : (outer : NetPair) → IsIn outer (all_pairs s.policy) → encloses s v permits i outer e ≡ false
+      apart_from outer k =
+          false_from_ne_true (encloses s v permits i outer e)
+          (λ t.
+          let w = and_parts (not ((outer.src == e.src) && (outer.dst == e.dst))) (is_round s.policy (view_here s v permits i) outer e) t in
+          let same = round_is_same s v permits site given apart (zone_at s i) outer e kept.zone (pair_there s v permits site given apart outer k) (pair_there s v permits site given apart e h) w.1 in
+          both_truths ((outer.src == e.src) && (outer.dst == e.dst)) (not-true ((outer.src == e.src) && (outer.dst == e.dst)) w.0)
+          (and_from (outer.src == e.src) (outer.dst == e.dst) (eq-eqb outer.src e.src (sym (ap (λ (x : NetPair). x.src) same))) (eq-eqb outer.dst e.dst (sym (ap (λ (x : NetPair). x.dst) same)))))
+
+  -- ---- one pair's rows
+
+  differ_of : (e : ℕ × ℕ) → wanted e ≡ true → (zone_of s e.0 == zone_of s e.1) ≡ false
+  differ_of e h = not-true (zone_of s e.0 == zone_of s e.1) (and_parts (is_joined permits (named e)) (not (zone_of s e.0 == zone_of s e.1)) h).1
+
+  abbrev straight : ℕ × ℕ → Permit → Bool
+  straight e q = (q.src.net == e.0) && (q.dst.net == e.1)
+
+  abbrev turned : ℕ × ℕ → Permit → Bool
+  turned e q = (q.src.net == e.1) && (q.dst.net == e.0)
+
+  forward_test : (w : ℕ) (q : Permit) → wanted (pair_at j.pairs w) ≡ true → belongs s.zones j.pairs false q w ≡ straight (pair_at j.pairs w) q
+  forward_test w q h =
+      let e = pair_at j.pairs w in
+      let differ = differ_of e h in
+      same_truth (belongs s.zones j.pairs false q w) (straight e q)
+      (λ t. (and_parts (not (slice_index s.zones q.src.net == slice_index s.zones q.dst.net) && (not false || has_replies q.box)) (straight e q) t).1)
+      (λ t.
+      let p = and_parts (q.src.net == e.0) (q.dst.net == e.1) t in
+      let zones = ap (λ n. zone_of s n == zone_of s q.dst.net) (eqb-true q.src.net e.0 p.0) ∙ (ap (λ n. zone_of s e.0 == zone_of s n) (eqb-true q.dst.net e.1 p.1) ∙ differ) in
+      and_from _ _ (and_from _ _ (not_from_false (slice_index s.zones q.src.net == slice_index s.zones q.dst.net) zones) refl) t)
+
+  back_test : (w : ℕ) (q : Permit) → wanted (pair_at j.pairs w) ≡ true → belongs s.zones j.pairs true q w ≡ (turned (pair_at j.pairs w) q && has_replies q.box)
+  back_test w q h =
+      let e = pair_at j.pairs w in
+      let differ = differ_of e h in
+      same_truth (belongs s.zones j.pairs true q w) (turned e q && has_replies q.box)
+      (λ t.
+      let a = and_parts (not (slice_index s.zones q.src.net == slice_index s.zones q.dst.net) && (not true || has_replies q.box)) (same_pair (ends_of true q) e) t in
+      let b = and_parts (not (slice_index s.zones q.src.net == slice_index s.zones q.dst.net)) (has_replies q.box) a.0 in
+      let c = and_parts (q.dst.net == e.0) (q.src.net == e.1) a.1 in
+      and_from (turned e q) (has_replies q.box) (and_from (q.src.net == e.1) (q.dst.net == e.0) c.1 c.0) b.1)
+      (λ t.
+      let a = and_parts (turned e q) (has_replies q.box) t in
+      let p = and_parts (q.src.net == e.1) (q.dst.net == e.0) a.0 in
+      let zones = ap (λ n. zone_of s n == zone_of s q.dst.net) (eqb-true q.src.net e.1 p.0) ∙ (ap (λ n. zone_of s e.1 == zone_of s n) (eqb-true q.dst.net e.0 p.1) ∙ turn (zone_of s e.0) (zone_of s e.1) differ) in
+      and_from _ _ (and_from _ _ (not_from_false (slice_index s.zones q.src.net == slice_index s.zones q.dst.net) zones) a.1) (and_from (q.dst.net == e.0) (q.src.net == e.1) p.1 p.0))
+    where
+      turn : (x y : ℕ) → (x == y) ≡ false → (y == x) ≡ false
+      turn x y f = false_from_ne_true (y == x) (λ u. both_truths (x == y) f (eq-eqb x y (sym (eqb-true y x u))))
+
+  pair_wanted : (w : ℕ) → w < length j.pairs → IsIn (pair_at j.pairs w) all × (wanted (pair_at j.pairs w) ≡ true)
+  pair_wanted w h =
+      let e = pair_at j.pairs w in
+      from_filter wanted e all (subst (IsIn e) kept.pairs (contains_in j.pairs e (w, h, get_or_default j.pairs w e (0, 0) h)))
+
+  forward_is : (w : ℕ) → w < length j.pairs → row_at j.forward w ≡ permits_between permits (pair_at j.pairs w).0 (pair_at j.pairs w).1
+  forward_is w h =
+      kept.forward w h
+      ∙ (filter_same (λ k. belongs s.zones j.pairs false (permit_at permits k) w) (λ k. straight (pair_at j.pairs w) (permit_at permits k)) (numbers_below (length permits)) (λ k m. forward_test w (permit_at permits k) (pair_wanted w h).1)
+      ∙ sym (places_are (straight (pair_at j.pairs w)) permits))
+
+  replied_is : (w : ℕ) → w < length j.pairs → row_at j.replied w ≡ filter (λ k. has_replies (permit_at permits k).box) (permits_between permits (pair_at j.pairs w).1 (pair_at j.pairs w).0)
+  replied_is w h =
+      let e = pair_at j.pairs w in
+      kept.replied w h
+      ∙ (filter_same (λ k. belongs s.zones j.pairs true (permit_at permits k) w) (λ k. turned e (permit_at permits k) && has_replies (permit_at permits k).box) (numbers_below (length permits)) (λ k m. back_test w (permit_at permits k) (pair_wanted w h).1)
+      ∙ (sym (filter_twice (λ k. turned e (permit_at permits k)) (λ k. has_replies (permit_at permits k).box) (numbers_below (length permits)))
+      ∙ ap (filter (λ k. has_replies (permit_at permits k).box)) (sym (places_are (turned e) permits))))
+
+  block_is : (w : ℕ) → w < length j.pairs → block_at j told w ≡ block_for (pair_at j.pairs w)
+  block_is w h =
+      let e = pair_at j.pairs w in
+      let pair = named e in
+      let closed = not_closed pair (in_map named e all (pair_wanted w h).0) in
+      ap (λ (xs : List ℕ). let b : Block = record { pair = pair; forward = xs; mirrored = cond told (row_at j.replied w) []; closed = false } in b) (forward_is w h)
+      ∙ (ap (λ (xs : List ℕ). let b : Block = record { pair = pair; forward = permits_between permits e.0 e.1; mirrored = cond told xs []; closed = false } in b) (replied_is w h)
+      ∙ ap (λ (c : Bool). let b : Block = record { pair = pair; forward = permits_between permits e.0 e.1; mirrored = replied_between s.policy permits i pair; closed = c } in b) (sym closed))
+
+  -- ---- which pairs are placed
+
+  abbrev on : ℕ × ℕ → Bool
+  on e = is_on_path s i (named e)
+
+  abbrev need : ℕ × ℕ → Bool
+  need e = is_needed s v permits i (block_for e)
+
+  abbrev deep : ℕ → ℕ × ℕ → Bool
+  deep k e = depth_of s v permits i (named e) == 64 - k
+
+  abbrev passes : ℕ → ℕ × ℕ → Bool
+  passes k e = (on e && need e) && deep k e
+
+  some_item : (xs : List ℕ) → not (is_nothing xs) ≡ true → (x : ℕ) × IsIn x xs
+  some_item [] h = absurd (false≢true h)
+  some_item (x ∷ xs) h = (x, inl refl)
+
+  in_permits : (test : Permit → Bool) (k : ℕ) → IsIn k (places_where test permits) → IsIn (permit_at permits k) permits × (test (permit_at permits k) ≡ true)
+  in_permits test k h =
+      let w = from_filter (λ k. test (permit_at permits k)) k (numbers_below (length permits)) (subst (IsIn k) (places_are test permits) h) in
+      let below = below_count (length permits) k w.0 in
+      (contains_in permits (permit_at permits k) (k, below, get_or_default permits k (permit_at permits k) no_permit below), w.1)
+
+  joined_forward : (e : ℕ × ℕ) → not (is_nothing (permits_between permits e.0 e.1)) ≡ true → is_joined permits (named e) ≡ true
+  joined_forward e h =
+      let k = some_item (permits_between permits e.0 e.1) h in
+      let q = in_permits (straight e) k.0 k.1 in
+      some_of (λ q. straight e q || turned e q) (permit_at permits k.0) permits q.0 (or_left (straight e (permit_at permits k.0)) (turned e (permit_at permits k.0)) q.1)
+
+  joined_back : (e : ℕ × ℕ) → not (is_nothing (replied_between s.policy permits i (named e))) ≡ true → is_joined permits (named e) ≡ true
+  joined_back e h = go told h
+    where
+      go : (b : Bool) → not (is_nothing (cond b (filter (λ k. has_replies (permit_at permits k).box) (permits_between permits e.1 e.0)) [])) ≡ true → is_joined permits (named e) ≡ true
+      go false h = absurd (false≢true h)
+      go true h =
+          let k = some_item (filter (λ k. has_replies (permit_at permits k).box) (permits_between permits e.1 e.0)) h in
+          let m = from_filter (λ k. has_replies (permit_at permits k).box) k.0 (permits_between permits e.1 e.0) k.1 in
+          let q = in_permits (turned e) k.0 m.0 in
+          some_of (λ q. straight e q || turned e q) (permit_at permits k.0) permits q.0 (or_right (straight e (permit_at permits k.0)) (turned e (permit_at permits k.0)) q.1)
+
+  way_differs : (e : ℕ × ℕ) → on e ≡ true → not (zone_of s e.0 == zone_of s e.1) ≡ true
+  way_differs e h =
+      let path = some_in (λ path. list_any (λ c. c.enter == i) path) (allowed_walks s (zone_of s e.0) (zone_of s e.1)) h in
+      (parts_of s (zone_of s e.0) (zone_of s e.1) path.0 (from_filter (is_allowed_walk s (zone_of s e.0) (zone_of s e.1)) path.0 (all_paths s) path.1).1).elsewhere
+
+  passed_wanted : (k : ℕ) (e : ℕ × ℕ) → IsIn e all → passes k e ≡ true → wanted e ≡ true
+  passed_wanted k e h t =
+      let a = and_parts (on e && need e) (deep k e) t in
+      let b = and_parts (on e) (need e) a.0 in
+      let c = and_parts (is_seen s.policy (view_here s v permits i) (named e)) (not (is_nothing (permits_between permits e.0 e.1)) || not (is_nothing (replied_between s.policy permits i (named e))) || is_closed s v permits i (named e)) b.1 in
+      and_from (is_joined permits (named e)) (not (zone_of s e.0 == zone_of s e.1))
+      (⊎_elim
+      (λ f. ⊎_elim (joined_forward e) (joined_back e) (or_cases (not (is_nothing (permits_between permits e.0 e.1))) (not (is_nothing (replied_between s.policy permits i (named e)))) f))
+      (λ f. absurd (both_truths (is_closed s v permits i (named e)) (not_closed (named e) (in_map named e all h)) f))
+      (or_cases (not (is_nothing (permits_between permits e.0 e.1)) || not (is_nothing (replied_between s.policy permits i (named e)))) (is_closed s v permits i (named e)) c.1))
+      (way_differs e b.0)
+
+  -- ---- one depth
+
+  defined_at : (k : ℕ) → filter (λ b. depth_of s v permits i b.pair == 64 - k) (filter (is_needed s v permits i) (map (block_of s v permits i) (pairs_on_path s i))) ≡ map block_for (filter (passes k) all)
+  defined_at k =
+      let D = λ (b : Block). depth_of s v permits i b.pair == 64 - k in
+      let N = is_needed s v permits i in
+      ap (λ es. filter D (filter N (map (block_of s v permits i) es))) (filter_map (is_on_path s i) named all)
+      ∙ (ap (λ bs. filter D (filter N bs)) (map_map (block_of s v permits i) named (filter on all))
+      ∙ (ap (filter D) (filter_map N block_for (filter on all))
+      ∙ (filter_map D block_for (filter need (filter on all))
+      ∙ ap (map block_for) (ap (filter (deep k)) (filter_twice on need all) ∙ filter_twice (λ e. on e && need e) (deep k) all))))
+
+  same_deep : (a b : ℕ) → a ≤ 64 → b ≤ 64 → (64 - a == b) ≡ (a == 64 - b)
+  same_deep a b ha hb =
+      same_truth (64 - a == b) (a == 64 - b)
+      (λ t. let e = eqb-true (64 - a) b t in eq-eqb a (64 - b) (omega (arith, e, ha, hb)))
+      (λ t. let e = eqb-true a (64 - b) t in eq-eqb (64 - a) b (omega (arith, e, ha, hb)))
+
+  own_length : (n : ℕ) → n < length s.policy.nets → length_in s.policy (view_here s v permits i) n ≡ (net_of s.policy n).own.len
+  own_length n h = let w = kept.shown n h in ap (λ o. option_map_or (λ (q : Cidr). q.len) o 0) w.is ∙ w.length_is
+
+  deep_is : (k : ℕ) (e : ℕ × ℕ) → k < 65 → IsIn e all → (shallow s.policy e == k) ≡ deep k e
+  deep_is k e hk h =
+      let there = pair_there s v permits site given apart (named e) (in_map named e all h) in
+      let a = own_length e.0 there.src in
+      let b = own_length e.1 there.dst in
+      let x = (kept.shown e.0 there.src).short in
+      let y = (kept.shown e.1 there.dst).short in
+      same_deep ((net_of s.policy e.0).own.len + (net_of s.policy e.1).own.len) k (omega (arith, x, y)) (omega (arith, hk))
+      ∙ ap (λ (d : ℕ). d == 64 - k) (let f : (net_of s.policy e.0).own.len + (net_of s.policy e.1).own.len ≡ depth_of s v permits i (named e) = omega (arith, a, b) in f)
+
+  or_nothing : (b : Bool) → (b || false) ≡ b
+  or_nothing true = refl
+  or_nothing false = refl
+
+  seen_here : (e : ℕ × ℕ) → IsIn e all → is_seen s.policy (view_here s v permits i) (named e) ≡ true
+  seen_here e h =
+      let there = pair_there s v permits site given apart (named e) (in_map named e all h) in
+      and_from _ _ (ap is_some (kept.shown e.0 there.src).is) (ap is_some (kept.shown e.1 there.dst).is)
+
+  need_is : (e : ℕ × ℕ) → IsIn e all → is_filled (block_for e) ≡ need e
+  need_is e h =
+      let filled = is_filled (block_for e) in
+      sym (ap (λ b. b && (filled || is_closed s v permits i (named e))) (seen_here e h)
+      ∙ (ap (λ b. filled || b) (not_closed (named e) (in_map named e all h)) ∙ or_nothing filled))
+
+  and_assoc : (a b c : Bool) → (a && (b && c)) ≡ ((a && b) && c)
+  and_assoc true b c = refl
+  and_assoc false b c = refl
+
+  kept_at : (k : ℕ) → k < 65 → map (block_at j told) (bucket s.policy j told (path_row s j.pairs (length j.pairs) i) k) ≡ map block_for (filter (passes k) all)
+  kept_at k hk =
+      let count = length j.pairs in
+      let X = numbers_below count in
+      let P = pair_at j.pairs in
+      let inside = λ (w : ℕ) (m : IsIn w X). below_count count w m in
+      ap (map (block_at j told))
+      (filter_twice (is_on_way s j.pairs i) (is_in_bucket s.policy j told k) X
+      ∙ filter_same (λ w. is_on_way s j.pairs i w && is_in_bucket s.policy j told k w) (λ w. passes k (P w)) X
+      (λ w m.
+      let e = P w in
+      let here = (pair_wanted w (inside w m)).0 in
+      let filled : is_filled (block_at j told w) ≡ need e = ap is_filled (block_is w (inside w m)) ∙ need_is e here in
+      and_assoc (on e) (is_filled (block_at j told w)) (shallow s.policy e == k)
+      ∙ (ap (λ b. (on e && b) && (shallow s.policy e == k)) filled ∙ ap (λ b. (on e && need e) && b) (deep_is k e hk here))))
+      ∙ (map_same (block_at j told) (λ w. block_for (P w)) (filter (λ w. passes k (P w)) X) (λ w m. block_is w (inside w (from_filter (λ w. passes k (P w)) w X m).0))
+      ∙ (sym (map_map block_for P (filter (λ w. passes k (P w)) X))
+      ∙ ap (map block_for)
+      (sym (filter_map (passes k) P X)
+      ∙ (ap (filter (passes k)) (sym (fill_by_all P j.pairs count (0, 0) refl (λ n h. refl)) ∙ kept.pairs)
+      ∙ (filter_twice wanted (passes k) all
+      ∙ filter_same (λ e. wanted e && passes k e) (passes k) all
+      (λ e m. same_truth (wanted e && passes k e) (passes k e) (λ t. (and_parts (wanted e) (passes k e) t).1) (λ t. and_from (wanted e) (passes k e) (passed_wanted k e m t) t)))))))
+
+  pub placed_is : placed s.policy j told (path_row s j.pairs (length j.pairs) i) ≡ placement s v permits i
+  placed_is =
+      flat_map_same (λ k. map (block_at j told) (bucket s.policy j told (path_row s j.pairs (length j.pairs) i) k))
+      (λ k. filter (λ b. depth_of s v permits i b.pair == 64 - k) (filter (is_needed s v permits i) (map (block_of s v permits i) (pairs_on_path s i)))) (numbers_below 65)
+      (λ k m. kept_at k (below_count 65 k m) ∙ sym (defined_at k))

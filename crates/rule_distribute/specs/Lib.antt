@@ -1,0 +1,9 @@
+pub mod Pairs
+pub mod Apart
+pub mod Given
+pub mod Rows
+pub mod Paths
+pub mod Placed
+pub mod Shown
+pub mod Lacking
+pub mod Distributed

@@ -1,0 +1,17 @@
+//! What is placed at each interface of a managed router: for each pair of networks on path there,
+//! its permits and those of the way back.
+#![tactic(auto)]
+
+mod blocks;
+mod joined;
+mod managed;
+mod pairs;
+mod paths;
+mod placement;
+mod places;
+mod rows;
+mod unjoined;
+mod zones;
+
+pub use places::distribute;
+pub use zones::zone_pairs;
