@@ -2,7 +2,8 @@
 use Rattle.std.proofs.Common.{◌≡◌, ℕ, zero, suc, ◌<◌, ◌≤◌, inl, inr, List, [], ◌∷◌, length, map, filter, refl, sym, subst, ap, ◌∙◌, arith}
 use Rattle.std.specs.Prelude.{◌==◌, slice_index_or}
 use Rattle.std.proofs.lemmas.List.{length-map}
-use Rattle.policy_model.specs.Policy.{Policy, managed_routers}
+use Rattle.std.proofs.lemmas.List.FromFn.{length-range_with_len}
+use Rattle.policy_model.specs.Policy.{Policy, all_ifaces}
 use Rattle.policy_model.specs.Zones.{Site, zone_of, zone_count}
 use Rattle.policy_model.specs.Tags.{Views}
 use Rattle.policy_model.specs.Permits as plain
@@ -14,7 +15,9 @@ use Rattle.zone_graph.specs.Grouped.{Graph, IsGraphOf}
 use Rattle.fault_laws.proofs.There.{permit_there}
 use Rattle.permit_set.specs.Shown.{permit_of}
 use Rattle.permit_set.specs.declared.permit.Permit.{Permit}
-use Rattle.policy_outcome.specs.Outcome.{is_local}
+use Rattle.dev_config.specs.declared.setup.List.{List as CodeList}
+use Rattle.dev_config.specs.Seen.{lines_of}
+use Rattle.policy_outcome.specs.Outcome.{is_local, list_for, lists_for}
 use Rattle.policy_outcome.specs.Found.{meaning_in, IsZoned, IsFound}
 use Rattle.policy_compile.specs.Seen.{AreZoned, is_within}
 
@@ -54,3 +57,9 @@ same_zones topo graph law zoned = sym (law (policy_of topo) graph zoned.is_graph
 -- lists that look the same are as long
 pub same_length : {A B C : Type 0} (f : A → C) (g : B → C) (xs : List A) (ys : List B) → map f xs ≡ map g ys → length xs ≡ length ys
 same_length f g xs ys e = sym (length-map xs f) ∙ ap length e ∙ length-map ys g
+
+-- there is a list for each interface
+pub listed : (topo : Topo) (lists : List CodeList) → map lines_of lists ≡ lists_for (meaning_in topo) → length lists ≡ length (policy_of topo).ifaces
+listed topo lists e =
+    let p = policy_of topo in
+    sym (length-map lists lines_of) ∙ ap length e ∙ length-map (all_ifaces p) (list_for (meaning_in topo)) ∙ length-range_with_len 0 (length p.ifaces)

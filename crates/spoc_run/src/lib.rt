@@ -14,4 +14,6 @@ mod top;
 pub use top::run;
 
 #[cfg(test)]
+mod rows;
+#[cfg(test)]
 mod tests;

@@ -245,3 +245,328 @@ fn a_router_that_keeps_state(rt: HostRuntime) -> Result<(), Fail> {
     check(&rt, alloc, &files, &wanted)?;
     Ok(())
 }
+
+// ---- routers that aren't managed, areas, sets
+
+const BEHIND: &str = "\
+network:n3 = { ip = 10.1.3.0/24; }
+router:u = { interface:n2; interface:n3; }
+service:s1 = {
+ user = network:n1;
+ permit src = user; dst = network:n3; prt = tcp 80;
+}
+";
+
+const BEHIND_FILE: &str = "\
+! r1 IOS
+ip access-list extended E1_in
+ permit tcp 10.1.1.0 0.0.0.255 10.1.3.0 0.0.0.255 eq 80
+ deny ip any any
+ip access-list extended E2_in
+ permit tcp 10.1.3.0 0.0.0.255 eq 80 10.1.1.0 0.0.0.255 established
+ deny ip any any
+interface E1
+ ip access-group E1_in in
+interface E2
+ ip access-group E2_in in
+";
+
+#[test]
+fn a_network_behind_an_unmanaged_router(rt: HostRuntime) -> Result<(), Fail> {
+    let alloc = rt.alloc();
+    let files = [("a", NETS), ("b", ONE_ROUTER), ("c", BEHIND)];
+    let wanted = Wanted {
+        status: 0,
+        text: "networks 3\nzones 2\nrouters 1\npermits 1\nlocal 0\nlines 4\nroutes 0\n",
+        held: &[("r1", BEHIND_FILE)],
+    };
+    check(&rt, alloc, &files, &wanted)?;
+    Ok(())
+}
+
+const NO_ROUTER: &str = "\
+network:n1 = { ip = 10.1.1.0/24; }
+network:n2 = { ip = 10.1.2.0/24; }
+router:u = { interface:n1; interface:n2; }
+service:s1 = {
+ user = network:n1;
+ permit src = user; dst = network:n2; prt = tcp 80;
+}
+";
+
+// Without a managed router no file is written.
+#[test]
+fn no_managed_router(rt: HostRuntime) -> Result<(), Fail> {
+    let alloc = rt.alloc();
+    let wanted = Wanted {
+        status: 0,
+        text: "networks 2\nzones 1\nrouters 0\npermits 1\nlocal 1\nlines 0\nroutes 0\n",
+        held: &[],
+    };
+    check(&rt, alloc, &[("p", NO_ROUTER)], &wanted)?;
+    Ok(())
+}
+
+const EMPTY_SET: &str = "\
+service:s1 = {
+ user = any:[network:n1] &! network:n1;
+ permit src = user; dst = network:n2; prt = tcp 80;
+}
+";
+
+const CLOSED: &str = "\
+! r1 IOS
+ip access-list extended E1_in
+ deny ip any any
+ip access-list extended E2_in
+ deny ip any any
+interface E1
+ ip access-group E1_in in
+interface E2
+ ip access-group E2_in in
+";
+
+#[test]
+fn a_set_with_nothing_in_it(rt: HostRuntime) -> Result<(), Fail> {
+    let alloc = rt.alloc();
+    let files = [("a", NETS), ("b", ONE_ROUTER), ("c", EMPTY_SET)];
+    let wanted = Wanted {
+        status: 0,
+        text: "networks 2\nzones 2\nrouters 1\npermits 0\nlocal 0\nlines 2\nroutes 0\n",
+        held: &[("r1", CLOSED)],
+    };
+    check(&rt, alloc, &files, &wanted)?;
+    Ok(())
+}
+
+// The policy of one router, with further declarations in the place of its service.
+fn refuse_with(rt: &impl Abort, alloc: Global, more: &str, line: &str) -> Result<(), NoMemory> {
+    let wanted = Wanted {
+        status: 1,
+        text: line,
+        held: &[],
+    };
+    let files = [("a", NETS), ("b", ONE_ROUTER), ("c", more)];
+    check(rt, alloc, &files, &wanted)
+}
+
+const SPLIT: &str = "area:a = { anchor = network:n1; border = interface:r1.n2; }\n";
+
+const MANAGED_END: &str = "\
+service:s1 = {
+ user = network:n1;
+ permit src = user; dst = interface:r1.n2; prt = tcp 80;
+}
+";
+
+const NO_PATH: &str = "\
+pathrestriction:x = interface:r1.n1, interface:r1.n2;
+service:s1 = {
+ user = network:n1;
+ permit src = user; dst = network:n2; prt = tcp 80;
+}
+";
+
+const NESTED: &str = "network:n3 = { ip = 10.1.2.128/25; }\n";
+
+#[test]
+fn areas_services_and_walks_are_refused(rt: HostRuntime) -> Result<(), Fail> {
+    let alloc = rt.alloc();
+    refuse_with(
+        &rt,
+        alloc,
+        SPLIT,
+        "fault AreaSplit area:a interface:r1.n2\n",
+    )?;
+    refuse_with(
+        &rt,
+        alloc,
+        MANAGED_END,
+        "fault ManagedEnd service:s1 interface:r1.n2\n",
+    )?;
+    refuse_with(
+        &rt,
+        alloc,
+        NO_PATH,
+        "fault NoPath network:n1 network:n2\n",
+    )?;
+    refuse_with(&rt, alloc, NESTED, "fault Later nested\n")?;
+    Ok(())
+}
+
+const TRANSLATED: &str = "\
+network:n1 = { ip = 10.1.1.0/24; nat:x = { ip = 192.0.2.0/24; } }
+network:n2 = { ip = 10.1.2.0/24; }
+router:r1 = {
+ managed;
+ model = IOS;
+ interface:n1 = { ip = 10.1.1.1; hardware = E1; }
+ interface:n2 = { ip = 10.1.2.1; hardware = E2; bind_nat = x; }
+}
+";
+
+const TWICE: &str = "\
+network:n1 = { ip = 10.1.1.0/24; nat:x = { ip = 192.0.2.0/24; } nat:y = { ip = 198.51.100.0/24; } }
+network:n2 = { ip = 10.1.2.0/24; }
+router:r1 = {
+ managed;
+ model = IOS;
+ interface:n1 = { ip = 10.1.1.1; hardware = E1; }
+ interface:n2 = { ip = 10.1.2.1; hardware = E2; bind_nat = x, y; }
+}
+";
+
+const INSIDE: &str = "\
+network:n1 = { ip = 10.1.1.0/24; }
+network:n2 = { ip = 10.1.2.0/24; nat:x = { ip = 192.0.2.0/24; } }
+router:r1 = {
+ managed;
+ model = IOS;
+ interface:n1 = { ip = 10.1.1.1; hardware = E1; }
+ interface:n2 = { ip = 10.1.2.1; hardware = E2; bind_nat = x; }
+}
+";
+
+const CONFLICT: &str = "\
+network:a = { ip = 10.0.1.0/24; nat:x = { ip = 192.0.2.0/24; } }
+network:b = { ip = 10.0.2.0/24; }
+router:r1 = {
+ managed;
+ model = IOS;
+ interface:a = { ip = 10.0.1.1; hardware = E1; }
+ interface:b = { ip = 10.0.2.1; hardware = E2; bind_nat = x; }
+}
+router:r2 = {
+ managed;
+ model = IOS;
+ interface:a = { ip = 10.0.1.2; hardware = E1; }
+ interface:b = { ip = 10.0.2.2; hardware = E2; }
+}
+";
+
+#[test]
+fn translations_are_refused(rt: HostRuntime) -> Result<(), Fail> {
+    let alloc = rt.alloc();
+    refuse(&rt, alloc, TRANSLATED, "fault Later nat\n")?;
+    refuse(
+        &rt,
+        alloc,
+        TWICE,
+        "fault NatTwice network:n1 zone:n2 nat:x nat:y\n",
+    )?;
+    refuse(
+        &rt,
+        alloc,
+        INSIDE,
+        "fault NatInside network:n2 nat:x\n",
+    )?;
+    refuse(
+        &rt,
+        alloc,
+        CONFLICT,
+        "fault NatConflict nat:x zone:a\n",
+    )?;
+    Ok(())
+}
+
+// ---- several routers
+
+const TRIANGLE: &str = "\
+network:a = { ip = 10.0.1.0/24; }
+network:b = { ip = 10.0.2.0/24; }
+network:c = { ip = 10.0.3.0/24; }
+router:r1 = {
+ managed;
+ model = IOS;
+ interface:a = { ip = 10.0.1.1; hardware = E1; }
+ interface:b = { ip = 10.0.2.1; hardware = E2; }
+}
+router:r2 = {
+ managed;
+ model = IOS;
+ interface:b = { ip = 10.0.2.2; hardware = E1; }
+ interface:c = { ip = 10.0.3.2; hardware = E2; }
+}
+router:r3 = {
+ managed;
+ model = IOS;
+ interface:a = { ip = 10.0.1.3; hardware = E1; }
+ interface:c = { ip = 10.0.3.3; hardware = E2; }
+}
+";
+
+const RESTRICTED: &str = "\
+pathrestriction:x = interface:r1.a, interface:r2.c;
+service:s1 = {
+ user = network:a;
+ permit src = user; dst = network:c; prt = tcp 80;
+}
+";
+
+const SHUT_R1: &str = "\
+! r1 IOS
+ip access-list extended E1_in
+ deny ip any any
+ip access-list extended E2_in
+ deny ip any any
+interface E1
+ ip access-group E1_in in
+interface E2
+ ip access-group E2_in in
+";
+
+const SHUT_R2: &str = "\
+! r2 IOS
+ip access-list extended E1_in
+ deny ip any any
+ip access-list extended E2_in
+ deny ip any any
+interface E1
+ ip access-group E1_in in
+interface E2
+ ip access-group E2_in in
+";
+
+const OPEN_R3: &str = "\
+! r3 IOS
+ip access-list extended E1_in
+ permit tcp 10.0.1.0 0.0.0.255 10.0.3.0 0.0.0.255 eq 80
+ deny ip any any
+ip access-list extended E2_in
+ permit tcp 10.0.3.0 0.0.0.255 eq 80 10.0.1.0 0.0.0.255 established
+ deny ip any any
+interface E1
+ ip access-group E1_in in
+interface E2
+ ip access-group E2_in in
+";
+
+const TRIANGLE_SUMMARY: &str =
+    "networks 3\nzones 3\nrouters 3\npermits 1\nlocal 0\nlines 8\nroutes 0\n";
+
+#[test]
+fn a_restriction_leaves_one_walk(rt: HostRuntime) -> Result<(), Fail> {
+    let alloc = rt.alloc();
+    let files = [("a", TRIANGLE), ("b", RESTRICTED)];
+    let wanted = Wanted {
+        status: 0,
+        text: TRIANGLE_SUMMARY,
+        held: &[("r1", SHUT_R1), ("r2", SHUT_R2), ("r3", OPEN_R3)],
+    };
+    check(&rt, alloc, &files, &wanted)?;
+    Ok(())
+}
+
+// The third call of `put` fails, and ten bytes are kept.
+#[test]
+fn a_failing_put_leaves_the_files_before_it(rt: HostRuntime) -> Result<(), Fail> {
+    let alloc = rt.alloc();
+    let files = [("a", TRIANGLE), ("b", RESTRICTED)];
+    let wanted = Wanted {
+        status: 4,
+        text: "",
+        held: &[("r1", SHUT_R1), ("r2", SHUT_R2), ("r3", "! r3 IOS\ni")],
+    };
+    check_puts(&rt, alloc, &files, &[(3, 10)], &wanted)?;
+    Ok(())
+}

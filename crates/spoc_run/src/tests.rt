@@ -199,18 +199,6 @@ fn policies_are_compiled_or_refused(rt: HostRuntime) -> Result<(), Fail> {
         device: Some(CLOSED),
     };
     compile_changed(&rt, alloc, "user = network:n1", "user = network:n2", &local)?;
-    let form = Wanted {
-        status: 1,
-        text: "fault Form\n",
-        device: None,
-    };
-    compile_changed(&rt, alloc, "model = IOS", "model = ASA", &form)?;
-    let names = Wanted {
-        status: 1,
-        text: "fault Names\n",
-        device: None,
-    };
-    compile_changed(&rt, alloc, "10.1.2.0/24", "10.1.0.0/16", &names)?;
     Ok(())
 }
 

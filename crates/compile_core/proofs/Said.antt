@@ -1,0 +1,56 @@
+-- What is known of the policy that sources declare.
+use Rattle.std.proofs.Common.{◌≡◌, ℕ, List, true, map, sym, ap, subst, ◌∙◌}
+use Rattle.std.specs.Prelude.{None, Ok, IsTrue}
+use Rattle.std.specs.Str.{bytes_eq}
+use Rattle.std.specs.List.{IsDistinct}
+use Rattle.policy_model.specs.Policy.{Policy}
+use Rattle.policy_model.specs.Filters.{Line}
+use Rattle.policy_laws.specs.Shaped.{IsShaped}
+use Rattle.policy_laws.specs.Routed.{IsWired}
+use Rattle.topology.specs.Sound.{IsSound}
+use Rattle.topology.specs.View.{policy_of, sources_of}
+use Rattle.topology.specs.declared.topo.Topo.{Topo}
+use Rattle.meaning_laws.specs.Tables.{meaning_of}
+use Rattle.spoc_ast.specs.Written.{DeclText}
+use Rattle.spoc_base.specs.declared.place.Source.{Source}
+use Rattle.policy_decls.specs.Said.{policy_said}
+use Rattle.policy_decls.specs.Faults.{fault_of}
+use Rattle.policy_decls.specs.Formed.{are_formed}
+use Rattle.policy_files.specs.OfTexts.{declared}
+use Rattle.fault_text.specs.Texts.{pair_of}
+use Rattle.policy_outcome.specs.Outcome.{Written, outcome_for, written_for, lists_for}
+use Rattle.policy_outcome.specs.Files.{files_for}
+use Rattle.policy_outcome.specs.Found.{meaning_in, pairs_in}
+use Rattle.policy_outcome.specs.Exact.{DecidesExactly, configs_for}
+use Rattle.compile_core.specs.Outcome.{source_texts, policy_in}
+use Rattle.compile_core.specs.Exact.{AreExact, file_names}
+
+-- what the policy in memory means and where it stands is what the sources say
+pub same_pairs : (topo : Topo) (sources : List Source) → sources_of topo ≡ sources → pairs_in topo ≡ map pair_of sources
+same_pairs topo sources e = ap (map pair_of) e
+
+pub same_meaning : (topo : Topo) (p : Policy) → policy_of topo ≡ p → meaning_in topo ≡ meaning_of p
+same_meaning topo p e = ap meaning_of e
+
+-- it is shaped, and its interfaces are placed
+pub shaped_and_wired : (topo : Topo) (sources : List (List ℕ × List ℕ)) →
+    ((decls : List DeclText) → IsTrue (are_formed decls) → fault_of decls ≡ None → IsSound (policy_said decls) → IsShaped (policy_said decls) × IsWired (policy_said decls)) →
+    ((texts : List (List ℕ)) → are_formed (declared texts) ≡ true) →
+    policy_of topo ≡ policy_in sources → fault_of (declared (source_texts sources)) ≡ None → IsShaped (policy_in sources) × IsWired (policy_in sources)
+shaped_and_wired topo sources law formed e none = law (declared (source_texts sources)) (formed (source_texts sources)) none (subst IsSound e topo.kept.sound)
+
+-- what is written for it is exact
+pub exact_of : (sources : List (List ℕ × List ℕ)) (written : Written) →
+    (written ≡ written_for (meaning_of (policy_in sources))) × DecidesExactly (policy_in sources) (configs_for (meaning_of (policy_in sources))) → AreExact sources written
+exact_of sources written h = record {
+  lists = lists_for (meaning_of (policy_in sources));
+  files = ap (λ (w : Written). w.files) h.0;
+  decides = h.1;
+}
+
+-- and its files have distinct names
+pub names_of : (sources : List (List ℕ × List ℕ)) (written : Written) →
+    ((decls : List DeclText) (lists : List (List Line)) → fault_of decls ≡ None → IsDistinct bytes_eq (map (λ file. file.0) (files_for (policy_said decls) lists))) →
+    fault_of (declared (source_texts sources)) ≡ None → written ≡ written_for (meaning_of (policy_in sources)) → IsDistinct bytes_eq (file_names written)
+names_of sources written law none e =
+    subst (λ (w : Written). IsDistinct bytes_eq (file_names w)) (sym e) (law (declared (source_texts sources)) (lists_for (meaning_of (policy_in sources))) none)
