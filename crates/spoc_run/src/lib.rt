@@ -17,3 +17,5 @@ pub use top::run;
 mod rows;
 #[cfg(test)]
 mod tests;
+#[cfg(test)]
+mod walks;

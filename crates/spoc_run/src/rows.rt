@@ -8,7 +8,7 @@ use std::process::Abort;
 use std::test::Fail;
 
 // The files of a folder: a path and a text each.
-type Files<'f> = &'f [(&'f str, &'f str)];
+pub(crate) type Files<'f> = &'f [(&'f str, &'f str)];
 
 // A folder with these files, in which some calls of `put` fail and keep so many bytes.
 fn folder(
@@ -43,10 +43,10 @@ fn words(alloc: Global) -> Result<Vec<Text>, NoMemory> {
 }
 
 // What a call is to answer, to write, and to leave in the target.
-struct Wanted<'w> {
-    status: u8,
-    text: &'w str,
-    held: Files<'w>,
+pub(crate) struct Wanted<'w> {
+    pub(crate) status: u8,
+    pub(crate) text: &'w str,
+    pub(crate) held: Files<'w>,
 }
 
 // Compares the files that the target holds.
@@ -79,7 +79,7 @@ fn check_puts(
 }
 
 // Compiles a policy of these files, and compares.
-fn check(
+pub(crate) fn check(
     rt: &impl Abort,
     alloc: Global,
     files: Files<'_>,
