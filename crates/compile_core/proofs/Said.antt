@@ -1,29 +1,36 @@
 -- What is known of the policy that sources declare.
 use Rattle.std.proofs.Common.{◌≡◌, ℕ, List, true, map, sym, ap, subst, ◌∙◌}
-use Rattle.std.specs.Prelude.{None, Ok, IsTrue}
+use Rattle.std.specs.Prelude.{None, Ok, Err, IsTrue}
 use Rattle.std.specs.Str.{bytes_eq}
 use Rattle.std.specs.List.{IsDistinct}
 use Rattle.policy_model.specs.Policy.{Policy}
 use Rattle.policy_model.specs.Filters.{Line}
+use Rattle.policy_model.specs.Headline.{Meaning}
 use Rattle.policy_laws.specs.Shaped.{IsShaped}
 use Rattle.policy_laws.specs.Routed.{IsWired}
+use Rattle.topology.specs.First.{IsRefusalOf}
 use Rattle.topology.specs.Sound.{IsSound}
 use Rattle.topology.specs.View.{policy_of, sources_of}
 use Rattle.topology.specs.declared.topo.Topo.{Topo}
 use Rattle.meaning_laws.specs.Tables.{meaning_of}
 use Rattle.spoc_ast.specs.Written.{DeclText}
+use Rattle.spoc_base.specs.declared.fault.Refusal.{Refusal}
+use Rattle.spoc_base.specs.declared.fault.Refusal.TheVariants as refusal
 use Rattle.spoc_base.specs.declared.place.Source.{Source}
 use Rattle.policy_decls.specs.Said.{policy_said}
 use Rattle.policy_decls.specs.Faults.{fault_of}
 use Rattle.policy_decls.specs.Formed.{are_formed}
 use Rattle.policy_files.specs.OfTexts.{declared}
-use Rattle.fault_text.specs.Texts.{pair_of}
+use Rattle.policy_files.specs.Seen.{texts_of}
+use Rattle.policy_source.specs.Faults.{fault_of_sources}
+use Rattle.fault_text.specs.Texts.{pair_of, fault_line}
 use Rattle.policy_outcome.specs.Outcome.{Written, outcome_for, written_for, lists_for}
 use Rattle.policy_outcome.specs.Files.{files_for}
 use Rattle.policy_outcome.specs.Found.{meaning_in, pairs_in}
 use Rattle.policy_outcome.specs.Exact.{DecidesExactly, configs_for}
-use Rattle.compile_core.specs.Outcome.{source_texts, policy_in}
+use Rattle.compile_core.specs.Outcome.{source_texts, policy_in, outcome_of}
 use Rattle.compile_core.specs.Exact.{AreExact, file_names}
+use Rattle.compile_core.proofs.Parts.{past_texts}
 
 -- what the policy in memory means and where it stands is what the sources say
 pub same_pairs : (topo : Topo) (sources : List Source) → sources_of topo ≡ sources → pairs_in topo ≡ map pair_of sources
@@ -54,3 +61,20 @@ pub names_of : (sources : List (List ℕ × List ℕ)) (written : Written) →
     fault_of (declared (source_texts sources)) ≡ None → written ≡ written_for (meaning_of (policy_in sources)) → IsDistinct bytes_eq (file_names written)
 names_of sources written law none e =
     subst (λ (w : Written). IsDistinct bytes_eq (file_names w)) (sym e) (law (declared (source_texts sources)) (lists_for (meaning_of (policy_in sources))) none)
+
+-- the outcome of the policy in memory is that of its sources
+pub same_outcome : (topo : Topo) (sources : List Source) → policy_of topo ≡ policy_in (map pair_of sources) → sources_of topo ≡ sources → fault_of_sources (texts_of sources) ≡ None →
+    outcome_of (map pair_of sources) ≡ outcome_for (pairs_in topo) (meaning_in topo)
+same_outcome topo sources policy told none =
+    past_texts sources none
+    ∙ sym (ap (λ (pairs : List (List ℕ × List ℕ)). outcome_for pairs (meaning_in topo)) (same_pairs topo sources told)
+    ∙ ap (λ (m : Meaning). outcome_for (map pair_of sources) m) (same_meaning topo (policy_in (map pair_of sources)) policy))
+
+-- its refusals are those of the sources
+pub same_refusal : (topo : Topo) (sources : List Source) → policy_of topo ≡ policy_in (map pair_of sources) → sources_of topo ≡ sources → fault_of_sources (texts_of sources) ≡ None →
+    (r : Refusal) → IsRefusalOf (λ fault. outcome_for (pairs_in topo) (meaning_in topo) ≡ Err (fault_line (pairs_in topo) fault)) r →
+    IsRefusalOf (λ fault. outcome_of (map pair_of sources) ≡ Err (fault_line (map pair_of sources) fault)) r
+same_refusal topo sources policy told none (refusal.Policy fault) e =
+    same_outcome topo sources policy told none ∙ e
+    ∙ ap (λ (pairs : List (List ℕ × List ℕ)). Err (fault_line pairs fault)) (same_pairs topo sources told)
+same_refusal topo sources policy told none refusal.Memory e = tt
