@@ -9,15 +9,15 @@ use Rattle.spoc_run.specs.Outcome.{compiled_of, is_accepted, device_files, polic
 use Rattle.spoc_run.specs.declared.load.LoadFail.{LoadFail}
 use Rattle.spoc_run.specs.declared.load.LoadFail.TheVariants.{Read, Large, Memory}
 
+-- what the policy compiles to decides exactly
+abbrev pub IsExactly : Files → Type 0
+IsExactly sources = (written : Written) → compiled_of sources ≡ Ok written → AreExact sources written
+
 -- what an accepted policy compiles to, whose files have distinct names and decide exactly
 pub record IsCompiled (sources : Files) (written : Written) : Type 0 where
   pub is : compiled_of sources ≡ Ok written
   pub names : IsDistinct bytes_eq (paths written.files)
-  pub exact : AreExact sources written
-
--- what the policy compiles to decides exactly
-abbrev pub IsExactly : Files → Type 0
-IsExactly sources = (written : Written) → compiled_of sources ≡ Ok written → AreExact sources written
+  pub exact : IsExactly sources
 
 -- for a policy that was read
 pub record AnswersSources (sources : Files) (status : ℕ) (text : List ℕ) (files : Files) : Type 0 where
