@@ -384,12 +384,7 @@ fn areas_services_and_walks_are_refused(rt: HostRuntime) -> Result<(), Fail> {
         MANAGED_END,
         "fault ManagedEnd service:s1 interface:r1.n2\n",
     )?;
-    refuse_with(
-        &rt,
-        alloc,
-        NO_PATH,
-        "fault NoPath network:n1 network:n2\n",
-    )?;
+    refuse_with(&rt, alloc, NO_PATH, "fault NoPath network:n1 network:n2\n")?;
     refuse_with(&rt, alloc, NESTED, "fault Later nested\n")?;
     Ok(())
 }
@@ -454,18 +449,8 @@ fn translations_are_refused(rt: HostRuntime) -> Result<(), Fail> {
         TWICE,
         "fault NatTwice network:n1 zone:n2 nat:x nat:y\n",
     )?;
-    refuse(
-        &rt,
-        alloc,
-        INSIDE,
-        "fault NatInside network:n2 nat:x\n",
-    )?;
-    refuse(
-        &rt,
-        alloc,
-        CONFLICT,
-        "fault NatConflict nat:x zone:a\n",
-    )?;
+    refuse(&rt, alloc, INSIDE, "fault NatInside network:n2 nat:x\n")?;
+    refuse(&rt, alloc, CONFLICT, "fault NatConflict nat:x zone:a\n")?;
     Ok(())
 }
 

@@ -30,7 +30,7 @@ returns-clause-exact c =
     let sources = c.args.sources.now in
     let pairs = map pair_of sources in
     let shape = shaped_and_wired c.args.topo pairs c.policies_said_are_shaped.ensures c.declarations_are_formed_and_written.ensures.formed c.requires.policy
-          (declared_without_fault sources c.requires.faultless) in
+    (declared_without_fault sources c.requires.faultless) in
     IfOk-weaker c.compile.result _ _ (λ made is. exact_of pairs (written_of made)
     (c.accepted_policies_decide_exactly.ensures pairs (policy_in pairs) (written_of made) shape.0 shape.1
     (sym (past_texts sources c.requires.faultless) ∙ same_outcome c.args.topo sources c.requires.policy c.requires.told c.requires.faultless ∙ is))) c.compile.ensures.done
@@ -40,7 +40,7 @@ returns-clause-names c =
     let sources = c.args.sources.now in
     let pairs = map pair_of sources in
     let shape = shaped_and_wired c.args.topo pairs c.policies_said_are_shaped.ensures c.declarations_are_formed_and_written.ensures.formed c.requires.policy
-          (declared_without_fault sources c.requires.faultless) in
+    (declared_without_fault sources c.requires.faultless) in
     IfOk-weaker c.compile.result _ _ (λ made is. names_of pairs (written_of made) c.files_have_distinct_names.ensures (declared_without_fault sources c.requires.faultless)
     (c.accepted_policies_decide_exactly.ensures pairs (policy_in pairs) (written_of made) shape.0 shape.1
     (sym (past_texts sources c.requires.faultless) ∙ same_outcome c.args.topo sources c.requires.policy c.requires.told c.requires.faultless ∙ is)).0) c.compile.ensures.done
