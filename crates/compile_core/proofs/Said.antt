@@ -1,6 +1,6 @@
 -- What is known of the policy that sources declare.
 use Rattle.std.proofs.Common.{◌≡◌, ℕ, List, true, map, sym, ap, subst, ◌∙◌}
-use Rattle.std.specs.Prelude.{None, Ok, Err, IsTrue}
+use Rattle.std.specs.Prelude.{None, Result, Ok, Err, IfOk, IfErr, IsTrue}
 use Rattle.std.specs.Str.{bytes_eq}
 use Rattle.std.specs.List.{IsDistinct}
 use Rattle.policy_model.specs.Policy.{Policy}
@@ -28,6 +28,8 @@ use Rattle.policy_outcome.specs.Outcome.{Written, outcome_for, written_for, list
 use Rattle.policy_outcome.specs.Files.{files_for}
 use Rattle.policy_outcome.specs.Found.{meaning_in, pairs_in}
 use Rattle.policy_outcome.specs.Exact.{DecidesExactly, configs_for}
+use Rattle.policy_compile.specs.Seen.{written_of}
+use Rattle.policy_compile.specs.declared.compiled.Compiled.{Compiled}
 use Rattle.compile_core.specs.Outcome.{source_texts, policy_in, outcome_of}
 use Rattle.compile_core.specs.Exact.{AreExact, file_names}
 use Rattle.compile_core.proofs.Parts.{past_texts}
@@ -63,18 +65,50 @@ names_of sources written law none e =
     subst (λ (w : Written). IsDistinct bytes_eq (file_names w)) (sym e) (law (declared (source_texts sources)) (lists_for (meaning_of (policy_in sources))) none)
 
 -- the outcome of the policy in memory is that of its sources
-pub same_outcome : (topo : Topo) (sources : List Source) → policy_of topo ≡ policy_in (map pair_of sources) → sources_of topo ≡ sources → fault_of_sources (texts_of sources) ≡ None →
-    outcome_of (map pair_of sources) ≡ outcome_for (pairs_in topo) (meaning_in topo)
-same_outcome topo sources policy told none =
-    past_texts sources none
-    ∙ sym (ap (λ (pairs : List (List ℕ × List ℕ)). outcome_for pairs (meaning_in topo)) (same_pairs topo sources told)
-    ∙ ap (λ (m : Meaning). outcome_for (map pair_of sources) m) (same_meaning topo (policy_in (map pair_of sources)) policy))
+module _ (topo : Topo) (sources : List Source) (policy : policy_of topo ≡ policy_in (map pair_of sources)) (told : sources_of topo ≡ sources) (none : fault_of_sources (texts_of sources) ≡ None) where
+  abbrev pairs : List (List ℕ × List ℕ)
+  pairs = map pair_of sources
 
--- its refusals are those of the sources
-pub same_refusal : (topo : Topo) (sources : List Source) → policy_of topo ≡ policy_in (map pair_of sources) → sources_of topo ≡ sources → fault_of_sources (texts_of sources) ≡ None →
-    (r : Refusal) → IsRefusalOf (λ fault. outcome_for (pairs_in topo) (meaning_in topo) ≡ Err (fault_line (pairs_in topo) fault)) r →
-    IsRefusalOf (λ fault. outcome_of (map pair_of sources) ≡ Err (fault_line (map pair_of sources) fault)) r
-same_refusal topo sources policy told none (refusal.Policy fault) e =
-    same_outcome topo sources policy told none ∙ e
-    ∙ ap (λ (pairs : List (List ℕ × List ℕ)). Err (fault_line pairs fault)) (same_pairs topo sources told)
-same_refusal topo sources policy told none refusal.Memory e = tt
+  same_meant : outcome_for pairs (meaning_of (policy_in pairs)) ≡ outcome_for (pairs_in topo) (meaning_in topo)
+  same_meant =
+      sym (ap (λ (told_pairs : List (List ℕ × List ℕ)). outcome_for told_pairs (meaning_in topo)) (same_pairs topo sources told)
+      ∙ ap (λ (m : Meaning). outcome_for pairs m) (same_meaning topo (policy_in pairs) policy))
+
+  meant_by : (o : Result Written (List ℕ)) → outcome_for (pairs_in topo) (meaning_in topo) ≡ o → outcome_for pairs (meaning_of (policy_in pairs)) ≡ o
+  meant_by o e = same_meant ∙ e
+
+  outcome_by : (o : Result Written (List ℕ)) → outcome_for (pairs_in topo) (meaning_in topo) ≡ o → outcome_of pairs ≡ o
+  outcome_by o e = past_texts sources none ∙ meant_by o e
+
+  pub done : (r : Result Compiled Refusal) → IfOk r (λ made. outcome_for (pairs_in topo) (meaning_in topo) ≡ Ok (written_of made)) → IfOk r (λ made. outcome_of pairs ≡ Ok (written_of made))
+  done (Ok made) e = outcome_by (Ok (written_of made)) e
+  done (Err refusal) e = tt
+
+  one_refused : (r : Refusal) → IsRefusalOf (λ fault. outcome_for (pairs_in topo) (meaning_in topo) ≡ Err (fault_line (pairs_in topo) fault)) r →
+      IsRefusalOf (λ fault. outcome_of pairs ≡ Err (fault_line pairs fault)) r
+  one_refused (refusal.Policy fault) e =
+      outcome_by (Err (fault_line (pairs_in topo) fault)) e ∙ ap (λ (told_pairs : List (List ℕ × List ℕ)). Err (fault_line told_pairs fault)) (same_pairs topo sources told)
+  one_refused refusal.Memory e = tt
+
+  pub refused : (r : Result Compiled Refusal) → IfErr r (IsRefusalOf (λ fault. outcome_for (pairs_in topo) (meaning_in topo) ≡ Err (fault_line (pairs_in topo) fault))) →
+      IfErr r (IsRefusalOf (λ fault. outcome_of pairs ≡ Err (fault_line pairs fault)))
+  refused (Ok made) e = tt
+  refused (Err refusal) e = one_refused refusal e
+
+  -- what is written is exact, and its files have distinct names
+  module _ (shape : IsShaped (policy_in pairs) × IsWired (policy_in pairs))
+      (law : (sources : List (List ℕ × List ℕ)) (p : Policy) (written : Written) → IsShaped p → IsWired p → outcome_for sources (meaning_of p) ≡ Ok written →
+      (written ≡ written_for (meaning_of p)) × DecidesExactly p (configs_for (meaning_of p))) where
+    decided : (made : Compiled) → outcome_for (pairs_in topo) (meaning_in topo) ≡ Ok (written_of made) →
+        (written_of made ≡ written_for (meaning_of (policy_in pairs))) × DecidesExactly (policy_in pairs) (configs_for (meaning_of (policy_in pairs)))
+    decided made e = law pairs (policy_in pairs) (written_of made) shape.0 shape.1 (meant_by (Ok (written_of made)) e)
+
+    pub exact : (r : Result Compiled Refusal) → IfOk r (λ made. outcome_for (pairs_in topo) (meaning_in topo) ≡ Ok (written_of made)) → IfOk r (λ made. AreExact pairs (written_of made))
+    exact (Ok made) e = exact_of pairs (written_of made) (decided made e)
+    exact (Err refusal) e = tt
+
+    pub named : ((decls : List DeclText) (lists : List (List Line)) → fault_of decls ≡ None → IsDistinct bytes_eq (map (λ file. file.0) (files_for (policy_said decls) lists))) →
+        fault_of (declared (source_texts pairs)) ≡ None → (r : Result Compiled Refusal) → IfOk r (λ made. outcome_for (pairs_in topo) (meaning_in topo) ≡ Ok (written_of made)) →
+        IfOk r (λ made. IsDistinct bytes_eq (file_names (written_of made)))
+    named names clear (Ok made) e = names_of pairs (written_of made) names clear (decided made e).0
+    named names clear (Err refusal) e = tt

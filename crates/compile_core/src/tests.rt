@@ -2,7 +2,8 @@ ghost use Rattle.std.specs.Prelude.{length, ◌≤◌};
 
 use crate::compiling::compile;
 use bumpalo::Bump;
-use group_expand::{areas, group_sets};
+use group_expand::areas;
+use group_expand::group_sets::group_sets;
 use permit_set::Permit;
 use policy_compile::{Compiled, summary_text};
 use policy_source::read_policy;
@@ -139,6 +140,6 @@ fn a_set_stands_for_the_networks_inside(rt: HostRuntime) -> Result<(), Fail> {
     for permit in &permits {
         nets.push(permit.dst.net.0)?;
     }
-    assert_eq!(rt; nets.as_slice(), &[2, 3, 4, 4]);
+    assert_eq!(rt; nets.as_slice(), [2u32, 3, 4, 4].as_slice());
     Ok(())
 }

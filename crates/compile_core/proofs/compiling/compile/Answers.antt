@@ -12,5 +12,5 @@ compile_said-requires c = record {
   faultless = c.in-Ok.ensures.faultless;
 }
 
-pub returns-in-Err-clause-refused : goal.returns-in-Err-clause-refused
-returns-in-Err-clause-refused c = refused_texts c.args.sources.now c.in-Err.refusal c.in-Err.ensures.refused
+pub returns-clause-refused : goal.returns-clause-refused
+returns-clause-refused c = refused_texts c.args.sources.now c.in-Err.refusal c.in-Err.ensures.refused
