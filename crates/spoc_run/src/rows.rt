@@ -43,6 +43,7 @@ fn words(alloc: Global) -> Result<Vec<Text>, NoMemory> {
 }
 
 // What a call is to answer, to write, and to leave in the target.
+#[derive(Clone, Copy)]
 pub(crate) struct Wanted<'w> {
     pub(crate) status: u8,
     pub(crate) text: &'w str,
