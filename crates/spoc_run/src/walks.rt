@@ -342,7 +342,50 @@ service:s1 = {
 }
 ";
 
-const LOOP_LISTS: &str = "\
+const LOOP_R0: &str = "\
+! r0 IOS
+ip access-list extended E1_in
+ permit tcp 10.0.0.0 0.0.0.255 10.0.3.0 0.0.0.255 eq 80
+ deny ip any any
+ip access-list extended E2_in
+ permit tcp 10.0.3.0 0.0.0.255 eq 80 10.0.0.0 0.0.0.255 established
+ deny ip any any
+interface E1
+ ip access-group E1_in in
+interface E2
+ ip access-group E2_in in
+";
+
+const LOOP_R1: &str = "\
+! r1 IOS
+ip access-list extended E1_in
+ permit tcp 10.0.0.0 0.0.0.255 10.0.3.0 0.0.0.255 eq 80
+ deny ip any any
+ip access-list extended E2_in
+ permit tcp 10.0.3.0 0.0.0.255 eq 80 10.0.0.0 0.0.0.255 established
+ deny ip any any
+interface E1
+ ip access-group E1_in in
+interface E2
+ ip access-group E2_in in
+";
+
+const LOOP_R2: &str = "\
+! r2 IOS
+ip access-list extended E1_in
+ permit tcp 10.0.0.0 0.0.0.255 10.0.3.0 0.0.0.255 eq 80
+ deny ip any any
+ip access-list extended E2_in
+ permit tcp 10.0.3.0 0.0.0.255 eq 80 10.0.0.0 0.0.0.255 established
+ deny ip any any
+interface E1
+ ip access-group E1_in in
+interface E2
+ ip access-group E2_in in
+";
+
+const LOOP_R3: &str = "\
+! r3 IOS
 ip access-list extended E1_in
  permit tcp 10.0.0.0 0.0.0.255 10.0.3.0 0.0.0.255 eq 80
  deny ip any any
@@ -357,20 +400,16 @@ interface E2
 
 #[test]
 fn both_ways_round_a_loop(rt: HostRuntime) -> Result<(), Fail> {
-    let alloc = rt.alloc();
-    let mut r0 = String::from_str(alloc, "! r0 IOS\n")?;
-    r0.push_str(LOOP_LISTS)?;
-    let mut r1 = String::from_str(alloc, "! r1 IOS\n")?;
-    r1.push_str(LOOP_LISTS)?;
-    let mut r2 = String::from_str(alloc, "! r2 IOS\n")?;
-    r2.push_str(LOOP_LISTS)?;
-    let mut r3 = String::from_str(alloc, "! r3 IOS\n")?;
-    r3.push_str(LOOP_LISTS)?;
     let wanted = Wanted {
         status: 0,
         text: "networks 4\nzones 4\nrouters 4\npermits 1\nlocal 0\nlines 16\nroutes 0\n",
-        held: &[("r1", &r1), ("r2", &r2), ("r3", &r3), ("r0", &r0)],
+        held: &[
+            ("r1", LOOP_R1),
+            ("r2", LOOP_R2),
+            ("r3", LOOP_R3),
+            ("r0", LOOP_R0),
+        ],
     };
-    check(&rt, alloc, &[("p", LOOP)], &wanted)?;
+    check(&rt, rt.alloc(), &[("p", LOOP)], &wanted)?;
     Ok(())
 }
