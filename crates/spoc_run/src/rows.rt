@@ -1,57 +1,32 @@
 // Whole runs over policies that were worked out by hand: services with hosts and several protocols,
 // areas, several routers, restrictions, routers that aren't managed, and an ASA.
 use crate::run;
+use crate::tests::{folder, target, words};
 use spoc_base::{NoMemory, Text};
 use spoc_io::{MemFolder, MemOut};
 use std::alloc::Global;
 use std::process::Abort;
 use std::test::Fail;
 
-// The files of a folder: a path and a text each.
-pub(crate) type Files<'f> = &'f [(&'f str, &'f str)];
-
-// A folder with these files, in which some calls of `put` fail and keep so many bytes.
-fn folder(
-    alloc: Global,
-    files: Files<'_>,
-    room: u64,
-    put_fails: &[(u32, u64)],
-) -> Result<MemFolder, NoMemory> {
-    let mut texts = Vec::new(alloc);
-    for file in files {
-        let path = Text::of(alloc, file.0.as_bytes())?;
-        let text = Text::of(alloc, file.1.as_bytes())?;
-        texts.push((path, text))?;
+// The parts of a policy, as one text.
+fn joined(alloc: Global, parts: &[&str]) -> Result<String, NoMemory> {
+    let mut text = String::new(alloc);
+    for part in parts {
+        text.push_str(part)?;
     }
-    MemFolder::new(
-        alloc,
-        texts,
-        room,
-        Vec::new(alloc),
-        put_fails.to_vec(alloc)?,
-    )
+    Ok(text)
 }
 
-// The words of a call.
-fn words(alloc: Global) -> Result<Vec<Text>, NoMemory> {
-    let mut texts = Vec::new(alloc);
-    for word in ["compile", "p", "c"] {
-        let text = Text::of(alloc, word.as_bytes())?;
-        texts.push(text)?;
-    }
-    Ok(texts)
-}
-
-// What a call is to answer, to write, and to leave in the target.
+// What a call is to answer, to write, and to leave in the target: names and texts of files.
 #[derive(Clone, Copy)]
 pub(crate) struct Wanted<'w> {
     pub(crate) status: u8,
     pub(crate) text: &'w str,
-    pub(crate) held: Files<'w>,
+    pub(crate) held: &'w [(&'w str, &'w str)],
 }
 
 // Compares the files that the target holds.
-fn compare_held(rt: &impl Abort, code: &MemFolder, held: Files<'_>) {
+fn compare_held(rt: &impl Abort, code: &MemFolder, held: &[(&str, &str)]) {
     let count = code.held_len();
     assert_eq!(rt; count, held.len());
     for k in 0..count {
@@ -60,43 +35,65 @@ fn compare_held(rt: &impl Abort, code: &MemFolder, held: Files<'_>) {
     }
 }
 
-// Compiles a policy of these files, where some calls of `put` fail, and compares.
-fn check_puts(
+// Compiles the policy of a folder, where some calls of `put` fail, and compares.
+fn compare(
     rt: &impl Abort,
     alloc: Global,
-    files: Files<'_>,
+    policy: &mut MemFolder,
     put_fails: &[(u32, u64)],
     wanted: &Wanted<'_>,
 ) -> Result<(), NoMemory> {
-    let words = words(alloc)?;
-    let mut policy = folder(alloc, files, 0, &[])?;
-    let mut code = folder(alloc, &[], 1_000_000, put_fails)?;
+    let words = words(alloc, &["compile", "p", "c"])?;
+    let mut code = target(alloc, put_fails)?;
     let mut out = MemOut::new(alloc, 1000, Vec::new(alloc))?;
-    let status = run(alloc, &words, &mut policy, &mut code, &mut out);
+    let status = run(alloc, &words, policy, &mut code, &mut out);
     assert_eq!(rt; out.text(), wanted.text.as_bytes());
     assert_eq!(rt; status, wanted.status);
     compare_held(rt, &code, wanted.held);
     Ok(())
 }
 
-// Compiles a policy of these files, and compares.
+// Compiles a policy of one file, which has these parts, and compares.
 pub(crate) fn check(
     rt: &impl Abort,
     alloc: Global,
-    files: Files<'_>,
+    parts: &[&str],
     wanted: &Wanted<'_>,
 ) -> Result<(), NoMemory> {
-    check_puts(rt, alloc, files, &[], wanted)
+    let text = joined(alloc, parts)?;
+    let mut policy = folder(alloc, text.as_bytes(), &[])?;
+    compare(rt, alloc, &mut policy, &[], wanted)
 }
 
 // Compiles a policy of one file, which is refused with this line.
-fn refuse(rt: &impl Abort, alloc: Global, policy: &str, line: &str) -> Result<(), NoMemory> {
+fn refuse(rt: &impl Abort, alloc: Global, parts: &[&str], line: &str) -> Result<(), NoMemory> {
     let wanted = Wanted {
         status: 1,
         text: line,
         held: &[],
     };
-    check(rt, alloc, &[("p", policy)], &wanted)
+    check(rt, alloc, parts, &wanted)
+}
+
+// A folder of several files, some of which are skipped.
+fn several_files(
+    alloc: Global,
+    hosts: &[u8],
+    router: &[u8],
+    rules: &[u8],
+) -> Result<MemFolder, NoMemory> {
+    let config = (Text::of(alloc, b"config")?, Text::of(alloc, b"no policy")?);
+    let rules = (Text::of(alloc, b"rules")?, Text::of(alloc, rules)?);
+    let old = (Text::of(alloc, b"net/r1~")?, Text::of(alloc, b"no policy")?);
+    let router = (Text::of(alloc, b"net/r1")?, Text::of(alloc, router)?);
+    let hosts = (Text::of(alloc, b"net/hosts")?, Text::of(alloc, hosts)?);
+    let mut files = Vec::new(alloc);
+    files.push(config)?;
+    files.push(rules)?;
+    files.push(old)?;
+    files.push(router)?;
+    files.push(hosts)?;
+    MemFolder::new(alloc, files, 0, Vec::new(alloc), Vec::new(alloc))
 }
 
 // ---- one router
@@ -142,25 +139,22 @@ interface E2
  ip access-group E2_in in
 ";
 
-// The policy stands in three files, one of them in a folder; others are skipped.
+// The policy stands in three files, two of them in a folder; others are skipped.
 #[test]
-fn a_range_of_hosts_in_many_files(rt: HostRuntime) -> Result<(), Fail> {
+fn a_range_of_hosts_in_several_files(rt: HostRuntime) -> Result<(), Fail> {
     let alloc = rt.alloc();
-    let files = [
-        ("config", "no policy"),
-        ("net/.old", "no policy"),
-        ("net/hosts", HOSTS),
-        ("net/r1~", "no policy"),
-        ("r1", ONE_ROUTER),
-        ("raw/r1", "no policy"),
-        ("rules", HOSTS_SERVICE),
-    ];
     let wanted = Wanted {
         status: 0,
         text: "networks 2\nzones 2\nrouters 1\npermits 1\nlocal 0\nlines 10\nroutes 0\n",
         held: &[("r1", HOSTS_FILE)],
     };
-    check(&rt, alloc, &files, &wanted)?;
+    let mut policy = several_files(
+        alloc,
+        HOSTS.as_bytes(),
+        ONE_ROUTER.as_bytes(),
+        HOSTS_SERVICE.as_bytes(),
+    )?;
+    compare(&rt, alloc, &mut policy, &[], &wanted)?;
     Ok(())
 }
 
@@ -199,13 +193,13 @@ interface E2
 #[test]
 fn several_protocols(rt: HostRuntime) -> Result<(), Fail> {
     let alloc = rt.alloc();
-    let files = [("a", NETS), ("b", ONE_ROUTER), ("c", PROTOCOLS_SERVICE)];
+    let parts = [NETS, ONE_ROUTER, PROTOCOLS_SERVICE];
     let wanted = Wanted {
         status: 0,
         text: "networks 2\nzones 2\nrouters 1\npermits 5\nlocal 0\nlines 10\nroutes 0\n",
         held: &[("r1", PROTOCOLS_FILE)],
     };
-    check(&rt, alloc, &files, &wanted)?;
+    check(&rt, alloc, &parts, &wanted)?;
     Ok(())
 }
 
@@ -237,13 +231,13 @@ access-group E2_in in interface E2
 #[test]
 fn a_router_that_keeps_state(rt: HostRuntime) -> Result<(), Fail> {
     let alloc = rt.alloc();
-    let files = [("a", NETS), ("b", ASA_ROUTER), ("c", WEB_SERVICE)];
+    let parts = [NETS, ASA_ROUTER, WEB_SERVICE];
     let wanted = Wanted {
         status: 0,
         text: "networks 2\nzones 2\nrouters 1\npermits 1\nlocal 0\nlines 3\nroutes 0\n",
         held: &[("r1", ASA_FILE)],
     };
-    check(&rt, alloc, &files, &wanted)?;
+    check(&rt, alloc, &parts, &wanted)?;
     Ok(())
 }
 
@@ -275,13 +269,13 @@ interface E2
 #[test]
 fn a_network_behind_an_unmanaged_router(rt: HostRuntime) -> Result<(), Fail> {
     let alloc = rt.alloc();
-    let files = [("a", NETS), ("b", ONE_ROUTER), ("c", BEHIND)];
+    let parts = [NETS, ONE_ROUTER, BEHIND];
     let wanted = Wanted {
         status: 0,
         text: "networks 3\nzones 2\nrouters 1\npermits 1\nlocal 0\nlines 4\nroutes 0\n",
         held: &[("r1", BEHIND_FILE)],
     };
-    check(&rt, alloc, &files, &wanted)?;
+    check(&rt, alloc, &parts, &wanted)?;
     Ok(())
 }
 
@@ -304,7 +298,7 @@ fn no_managed_router(rt: HostRuntime) -> Result<(), Fail> {
         text: "networks 2\nzones 1\nrouters 0\npermits 1\nlocal 1\nlines 0\nroutes 0\n",
         held: &[],
     };
-    check(&rt, alloc, &[("p", NO_ROUTER)], &wanted)?;
+    check(&rt, alloc, &[NO_ROUTER], &wanted)?;
     Ok(())
 }
 
@@ -330,25 +324,19 @@ interface E2
 #[test]
 fn a_set_with_nothing_in_it(rt: HostRuntime) -> Result<(), Fail> {
     let alloc = rt.alloc();
-    let files = [("a", NETS), ("b", ONE_ROUTER), ("c", EMPTY_SET)];
+    let parts = [NETS, ONE_ROUTER, EMPTY_SET];
     let wanted = Wanted {
         status: 0,
         text: "networks 2\nzones 2\nrouters 1\npermits 0\nlocal 0\nlines 2\nroutes 0\n",
         held: &[("r1", CLOSED)],
     };
-    check(&rt, alloc, &files, &wanted)?;
+    check(&rt, alloc, &parts, &wanted)?;
     Ok(())
 }
 
-// The policy of one router, with further declarations in the place of its service.
+// The policy of one router, with further declarations in the place of its service, is refused.
 fn refuse_with(rt: &impl Abort, alloc: Global, more: &str, line: &str) -> Result<(), NoMemory> {
-    let wanted = Wanted {
-        status: 1,
-        text: line,
-        held: &[],
-    };
-    let files = [("a", NETS), ("b", ONE_ROUTER), ("c", more)];
-    check(rt, alloc, &files, &wanted)
+    refuse(rt, alloc, &[NETS, ONE_ROUTER, more], line)
 }
 
 const SPLIT: &str = "area:a = { anchor = network:n1; border = interface:r1.n2; }\n";
@@ -443,15 +431,15 @@ router:r2 = {
 #[test]
 fn translations_are_refused(rt: HostRuntime) -> Result<(), Fail> {
     let alloc = rt.alloc();
-    refuse(&rt, alloc, TRANSLATED, "fault Later nat\n")?;
+    refuse(&rt, alloc, &[TRANSLATED], "fault Later nat\n")?;
     refuse(
         &rt,
         alloc,
-        TWICE,
+        &[TWICE],
         "fault NatTwice network:n1 zone:n2 nat:x nat:y\n",
     )?;
-    refuse(&rt, alloc, INSIDE, "fault NatInside network:n2 nat:x\n")?;
-    refuse(&rt, alloc, CONFLICT, "fault NatConflict nat:x zone:a\n")?;
+    refuse(&rt, alloc, &[INSIDE], "fault NatInside network:n2 nat:x\n")?;
+    refuse(&rt, alloc, &[CONFLICT], "fault NatConflict nat:x zone:a\n")?;
     Ok(())
 }
 
@@ -533,13 +521,13 @@ const TRIANGLE_SUMMARY: &str =
 #[test]
 fn a_restriction_leaves_one_walk(rt: HostRuntime) -> Result<(), Fail> {
     let alloc = rt.alloc();
-    let files = [("a", TRIANGLE), ("b", RESTRICTED)];
+    let parts = [TRIANGLE, RESTRICTED];
     let wanted = Wanted {
         status: 0,
         text: TRIANGLE_SUMMARY,
         held: &[("r1", SHUT_R1), ("r2", SHUT_R2), ("r3", OPEN_R3)],
     };
-    check(&rt, alloc, &files, &wanted)?;
+    check(&rt, alloc, &parts, &wanted)?;
     Ok(())
 }
 
@@ -547,12 +535,13 @@ fn a_restriction_leaves_one_walk(rt: HostRuntime) -> Result<(), Fail> {
 #[test]
 fn a_failing_put_leaves_the_files_before_it(rt: HostRuntime) -> Result<(), Fail> {
     let alloc = rt.alloc();
-    let files = [("a", TRIANGLE), ("b", RESTRICTED)];
     let wanted = Wanted {
         status: 4,
         text: "",
         held: &[("r1", SHUT_R1), ("r2", SHUT_R2), ("r3", "! r3 IOS\ni")],
     };
-    check_puts(&rt, alloc, &files, &[(3, 10)], &wanted)?;
+    let text = joined(alloc, &[TRIANGLE, RESTRICTED])?;
+    let mut policy = folder(alloc, text.as_bytes(), &[])?;
+    compare(&rt, alloc, &mut policy, &[(3, 10)], &wanted)?;
     Ok(())
 }

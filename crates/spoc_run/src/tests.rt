@@ -54,7 +54,11 @@ fn changed(alloc: Global, old: &str, new: &str) -> Result<String, NoMemory> {
 }
 
 // A folder with the one file `p`.
-fn folder(alloc: Global, text: &[u8], read_fails: &[u32]) -> Result<MemFolder, NoMemory> {
+pub(crate) fn folder(
+    alloc: Global,
+    text: &[u8],
+    read_fails: &[u32],
+) -> Result<MemFolder, NoMemory> {
     let mut files = Vec::new(alloc);
     files.push((Text::of(alloc, b"p")?, Text::of(alloc, text)?))?;
     MemFolder::new(alloc, files, 0, read_fails.to_vec(alloc)?, Vec::new(alloc))
@@ -77,14 +81,14 @@ fn empty_folder(alloc: Global) -> Result<MemFolder, NoMemory> {
 }
 
 // An empty target, in which some calls of `put` fail and keep so many bytes.
-fn target(alloc: Global, put_fails: &[(u32, u64)]) -> Result<MemFolder, NoMemory> {
+pub(crate) fn target(alloc: Global, put_fails: &[(u32, u64)]) -> Result<MemFolder, NoMemory> {
     let files = Vec::new(alloc);
     let put_fails = put_fails.to_vec(alloc)?;
     MemFolder::new(alloc, files, 1_000_000, Vec::new(alloc), put_fails)
 }
 
 // The words of a call.
-fn words(alloc: Global, words: &[&str]) -> Result<Vec<Text>, NoMemory> {
+pub(crate) fn words(alloc: Global, words: &[&str]) -> Result<Vec<Text>, NoMemory> {
     let mut texts = Vec::new(alloc);
     for word in words {
         let text = Text::of(alloc, word.as_bytes())?;

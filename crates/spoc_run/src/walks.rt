@@ -111,12 +111,7 @@ fn a_restriction_over_three_routers(rt: HostRuntime) -> Result<(), Fail> {
             ("r4", THREE_R4),
         ],
     };
-    check(
-        &rt,
-        rt.alloc(),
-        &[("a", RING), ("b", THREE_MEMBERS)],
-        &wanted,
-    )?;
+    check(&rt, rt.alloc(), &[RING, THREE_MEMBERS], &wanted)?;
     Ok(())
 }
 
@@ -181,12 +176,7 @@ fn two_restrictions_that_share_a_member(rt: HostRuntime) -> Result<(), Fail> {
             ("r4", SHARED_R4),
         ],
     };
-    check(
-        &rt,
-        rt.alloc(),
-        &[("a", RING), ("b", SHARED_MEMBER)],
-        &wanted,
-    )?;
+    check(&rt, rt.alloc(), &[RING, SHARED_MEMBER], &wanted)?;
     Ok(())
 }
 
@@ -243,7 +233,7 @@ fn three_interfaces_in_one_zone(rt: HostRuntime) -> Result<(), Fail> {
         text: "networks 4\nzones 2\nrouters 1\npermits 1\nlocal 0\nlines 8\nroutes 0\n",
         held: &[("r1", THREE_DOORS_FILE)],
     };
-    check(&rt, rt.alloc(), &[("p", THREE_DOORS)], &wanted)?;
+    check(&rt, rt.alloc(), &[THREE_DOORS], &wanted)?;
     Ok(())
 }
 
@@ -300,7 +290,7 @@ fn two_routers_between_two_zones(rt: HostRuntime) -> Result<(), Fail> {
         text: "networks 2\nzones 2\nrouters 2\npermits 1\nlocal 0\nlines 7\nroutes 0\n",
         held: &[("r1", TWO_R1), ("r2", TWO_R2)],
     };
-    check(&rt, rt.alloc(), &[("p", TWO_ROUTERS)], &wanted)?;
+    check(&rt, rt.alloc(), &[TWO_ROUTERS], &wanted)?;
     Ok(())
 }
 
@@ -410,6 +400,6 @@ fn both_ways_round_a_loop(rt: HostRuntime) -> Result<(), Fail> {
             ("r0", LOOP_R0),
         ],
     };
-    check(&rt, rt.alloc(), &[("p", LOOP)], &wanted)?;
+    check(&rt, rt.alloc(), &[LOOP], &wanted)?;
     Ok(())
 }
