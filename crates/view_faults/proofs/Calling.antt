@@ -1,5 +1,5 @@
 -- How zones are called, and how many views there are.
-use Rattle.std.proofs.Common.{◌≡◌, ℕ, zero, suc, ◌+◌, ◌<◌, ◌≤◌, Bool, true, false, cond, List, [], ◌∷◌, length, map, filter, refl, sym, ap, subst, ◌∙◌, ⊎_elim, arith}
+use Rattle.std.proofs.Common.{◌≡◌, ℕ, zero, suc, ◌+◌, ◌<◌, ◌≤◌, Bool, true, false, cond, List, [], ◌∷◌, length, filter, refl, sym, ap, subst, ◌∙◌, arith}
 use Rattle.std.specs.Prelude.{◌≢◌, ◌==◌, slice_index, slice_index_or}
 use Rattle.std.specs.List.{range_with_len}
 use Rattle.std.proofs.lemmas.Bool.{eq-eqb, false≢true}
@@ -15,7 +15,7 @@ use Rattle.policy_model.specs.Zones.{Site, nets_in, zone_count}
 use Rattle.policy_model.specs.Tags.{Views, AreViews, inner_tags}
 use Rattle.topology.specs.Texts.{LiesIn, text_at, name_span}
 use Rattle.topology.specs.Told.{IsNetName, IsZoneName}
-use Rattle.zone_graph.specs.Grouped.{Graph, IsGraphOf, nets_with}
+use Rattle.zone_graph.specs.Grouped.{Graph, IsGraphOf}
 use Rattle.zone_laws.proofs.Counted.{counted}
 
 pub zone_told : (sources : List Source) (s : Site) (z n : ℕ) (named : Named) (span : Span) → n ≡ slice_index_or (nets_in s z) 0 0 → IsNetName sources s.policy n named → span ≡ name_span named →

@@ -1,11 +1,10 @@
 -- The fault that is told is the first of the two rows.
-use Rattle.std.proofs.Common.{◌≡◌, ℕ, ◌<◌, ◌≤◌, ◌⊎◌, Bool, true, false, not, ◌&&◌, ◌||◌, List, [], ◌∷◌, ◌++◌, length, refl, sym, ap, subst, ◌∙◌, ⊎_elim, arith}
+use Rattle.std.proofs.Common.{◌≡◌, ℕ, ◌<◌, ◌≤◌, Bool, true, false, not, ◌&&◌, ◌||◌, List, [], ◌∷◌, ◌++◌, length, refl, sym, ap, subst, ◌∙◌, ⊎_elim, arith}
 use Rattle.std.specs.Prelude.{◌==◌, nat_lt, IsTrue}
-use Rattle.std.proofs.lemmas.Bool.{eqb-true, eq-eqb, ltb-true, lt-ltb, cases_lt, cases_Bool, or_left, or_right, and_from, false≢true}
+use Rattle.std.proofs.lemmas.Bool.{eqb-true, ltb-true, lt-ltb, cases_lt, cases_Bool, or_left, false≢true}
 use Rattle.spoc_base.specs.declared.place.Source.{Source}
 use Rattle.spoc_base.specs.declared.fault.Fault.{Fault}
 use Rattle.spoc_base.specs.declared.fault.Fault.TheVariants as fault
-use Rattle.policy_model.specs.Policy.{Policy}
 use Rattle.policy_model.specs.Zones.{Site, zone_count}
 use Rattle.policy_model.specs.Tags.{Views, zone_view, router_view}
 use Rattle.policy_model.specs.Faults.{view_count, is_same_prefix}
@@ -13,7 +12,7 @@ use Rattle.policy_model.specs.FirstFault.{FaultCase, ViewPlace, AtZone, AtRouter
 use Rattle.policy_model.specs.Headline.{Meaning, permits_in}
 use Rattle.topology.specs.First.{IsWithin, TellsFirst, HasNone}
 use Rattle.topology.specs.Told.{IsTold}
-use Rattle.nat_view.specs.Seen.{has_view, AreApartIn, AreAllApart, AreLeastSame, AreFirstSame}
+use Rattle.nat_view.specs.Seen.{has_view, AreAllApart, AreFirstSame}
 
 -- ---- the order of words
 

@@ -1,5 +1,5 @@
 -- What was seen are the first views, each once, and they aren't too many.
-use Rattle.std.proofs.Common.{◌≡◌, ◌≤◌, ℕ, List, length, take}
+use Rattle.std.proofs.Common.{◌≡◌, ◌≤◌, length, take}
 use Rattle.policy_model.specs.Lists.{once_each}
 use Rattle.policy_model.specs.Faults.{all_views, same_numbers}
 use Rattle.policy_model.specs.FirstFault.{most_views}

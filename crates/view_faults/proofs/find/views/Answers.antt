@@ -1,10 +1,7 @@
-use Rattle.std.proofs.Common.{◌≡◌, ◌∙◌, ◌<◌, ℕ, Bool, true, false, length, sym, ap, subst, arith}
-use Rattle.std.specs.Prelude.{IsTrue}
+use Rattle.std.proofs.Common.{◌∙◌, length, sym, ap, subst, arith}
 use Rattle.std.proofs.lemmas.Bool.{false≢true}
 use Rattle.std.proofs.lemmas.List.{length-map}
 use Rattle.policy_model.specs.Headline.{Meaning}
-use Rattle.policy_model.specs.Faults.{view_count}
-use Rattle.policy_model.specs.FirstFault.{most_views}
 use Rattle.topology.specs.First.{HasNone, TellsFirst}
 use Rattle.topology.specs.Seen.{router_seen}
 use Rattle.topology.specs.View.{policy_of, sources_of}

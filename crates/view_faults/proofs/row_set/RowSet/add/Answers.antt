@@ -1,4 +1,4 @@
-use Rattle.std.proofs.Common.{◌≡◌, ◌∙◌, ap, map}
+use Rattle.std.proofs.Common.{◌∙◌, ap, map}
 use Rattle.view_faults.proofs.Counting.{numbers_of, row_added}
 use Rattle.view_faults.proofs.row_set.RowSet.add.Goals as goal
 
