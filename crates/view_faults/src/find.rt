@@ -39,7 +39,7 @@ pub fn views<'a>(
     }
     match view_table(alloc, topo, graph, tags) {
         Ok(views) => Ok(views),
-        Err(ViewFail::Same(at, n, m)) => { Err(Refusal::Policy(same_fault(topo, graph, at, n, m))) }
+        Err(ViewFail::Same(at, n, m)) => Err(Refusal::Policy(same_fault(topo, graph, at, n, m))),
         Err(ViewFail::Memory) => Err(Refusal::Memory),
     }
 }
