@@ -1,4 +1,4 @@
-ghost use Rattle.std.specs.Prelude.{◌≡◌, ◌<◌, ◌++◌, length, map, filter, flat_map, IfOk, not, ◌&&◌, ◌==◌};
+ghost use Rattle.std.specs.Prelude.{◌≡◌, ◌<◌, ◌++◌, length, map, filter, flat_map, IfOk, ◌&&◌, ◌==◌};
 ghost use Rattle.policy_model.specs.Blocks.{all_pairs};
 ghost use Rattle.nat_view.specs.Sights.{sight_of};
 ghost use Rattle.closed_pairs.specs.Seen.{nets_seen};

@@ -1,4 +1,4 @@
-ghost use Rattle.std.specs.Prelude.{◌≡◌, ◌++◌, ◌<◌, length, map, flat_map, IfOk, OnOk};
+ghost use Rattle.std.specs.Prelude.{◌≡◌, map, flat_map, IfOk, OnOk};
 ghost use Rattle.spoc_base.specs.Shown.{cidr_of, box_of};
 ghost use Rattle.policy_model.specs.Blocks.{end_cover as cover_in};
 ghost use Rattle.permit_set.specs.Shown.{end_of};

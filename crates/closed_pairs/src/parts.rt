@@ -3,7 +3,7 @@ ghost use Rattle.std.specs.List.{list_any};
 ghost use Rattle.spoc_base.specs.Boxes.{box_covers};
 ghost use Rattle.spoc_base.specs.Shown.{cidr_of, box_of};
 ghost use Rattle.policy_model.specs.Filters.{line_covers};
-ghost use Rattle.policy_model.specs.Blocks.{common_part as shared, limited_to};
+ghost use Rattle.policy_model.specs.Blocks.{common_part as shared};
 ghost use Rattle.closed_pairs.specs.Seen.{line_seen, ends_seen};
 ghost use Rattle.closed_pairs.specs.Reaching.{limited_line, part_of, line_reaches};
 
