@@ -1,0 +1,16 @@
+//! Whether a pair of networks must be closed at an interface: whether a line of a pair round it
+//! reaches into it, past its own lines. And the pairs that lie inside a pair.
+#![tactic(auto)]
+
+mod inside;
+mod laws;
+mod lines;
+mod pairs;
+mod parts;
+mod permits;
+mod reach;
+
+pub use inside::pairs_inside;
+pub use laws::{closed_as_defined, inside_as_defined, reaches_as_defined};
+pub use pairs::PairPermits;
+pub use reach::reaches_in;
