@@ -1,5 +1,5 @@
 -- Where tags and views have no fault, prefixes are distinct.
-use Rattle.std.proofs.Common.{◌≡◌, ℕ, zero, suc, ◌<◌, ◌≤◌, true, false, List, [], ◌∷◌, length, map, sym, subst, arith}
+use Rattle.std.proofs.Common.{ℕ, zero, suc, ◌<◌, ◌≤◌, List, [], ◌∷◌, length, map, sym, subst, arith}
 use Rattle.std.specs.Prelude.{max, fold, slice_index}
 use Rattle.std.proofs.lemmas.Bool.{false_from_ne_true, lt-ltb}
 use Rattle.policy_model.specs.Policy.{Policy, net_at}

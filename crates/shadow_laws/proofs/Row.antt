@@ -1,5 +1,5 @@
 -- The row of shadowed addresses: what may be one, as it is listed, and the test.
-use Rattle.std.proofs.Common.{◌≡◌, ℕ, ◌<◌, inl, inr, Bool, true, cond, List, [], ◌∷◌, ◌++◌, length, Option, refl, sym, ap, subst, ◌∙◌, arith}
+use Rattle.std.proofs.Common.{◌≡◌, ℕ, ◌<◌, inl, inr, Bool, true, cond, List, [], ◌∷◌, ◌++◌, length, refl, sym, ap, subst, ◌∙◌, arith}
 use Rattle.std.specs.Prelude.{◌==◌}
 use Rattle.std.specs.Option.{option_or}
 use Rattle.std.proofs.lemmas.Bool.{ltb-true, lt-ltb}
@@ -12,7 +12,7 @@ use Rattle.policy_model.specs.Headline.{Meaning, permits_in}
 use Rattle.policy_model.proofs.AllWalks.{IsIn, in_pairs, in_numbers}
 use Rattle.topology.specs.First.{row_of}
 use Rattle.fault_laws.specs.Cases.{IsFirstCase, all_places, views_case, same_case}
-use Rattle.fault_laws.proofs.Orders.{InOrder, PairBefore, from_numbers, from_pairs, order_numbers, order_pairs}
+use Rattle.fault_laws.proofs.Orders.{InOrder, PairBefore, from_pairs, order_numbers, order_pairs}
 use Rattle.fault_laws.proofs.Shapes.{lower_here, lower_later}
 use Rattle.fault_laws.proofs.Joins.{joined}
 use Rattle.fault_laws.proofs.Finding.{AreListed, listed_first}
