@@ -1,0 +1,4 @@
+pub mod TwoKinds
+pub mod Shadowed
+pub mod Row
+pub mod Distinct
