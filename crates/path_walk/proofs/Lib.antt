@@ -13,3 +13,4 @@ mod Starts
 mod Tree
 mod FirstWalks
 mod Open
+pub mod Passed

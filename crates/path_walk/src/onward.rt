@@ -190,7 +190,8 @@ fn add(
     Ok(())
 }
 
-/// Adds the crossings by which a walk may go on at an interface.
+/// Adds the crossings by which a walk may go on at an interface. There is none where the path has
+/// crossed its router.
 pub(crate) fn add_at(
     topo: Topo<'_>,
     graph: &ZoneGraph,
@@ -202,7 +203,11 @@ pub(crate) fn add_at(
     requires { IsGraphOf (policy_of topo) graph.now }
     ensures { OnOk result (path_seen found.new.items ≡ path_seen found.old.items ++ by_door (site_of (policy_of topo.entry) graph.now) from.0 (path_seen path.now) enter.0) }
 {
-    let row = ifs_of(topo, router_at(topo, enter));
+    let router = router_at(topo, enter);
+    if passes_router(topo, path, router) {
+        return Ok(());
+    }
+    let row = ifs_of(topo, router);
     for leave in row {
         let c = Step {
             enter,
