@@ -12,6 +12,10 @@ pub match_weaker : {A : Type 0} (P Q : Type 0) (R S : A → Type 0) (o : Option 
 match_weaker P Q R S None f g h = f h
 match_weaker P Q R S (Some x) f g h = g x h
 
+pub none_of : {A : Type 0} (P : Type 0) (Q : A → Type 0) (o : Option A) → ((x : A) → o ≡ Some x → ⊥) → MatchOption o P Q → P
+none_of P Q None not h = h
+none_of P Q (Some x) not h = absurd (not x refl)
+
 pub none_more : (P : ℕ → Type 0) (xs : List ℕ) (k : ℕ) → NoneBefore P xs k → (P (slice_index_or xs k 0) → ⊥) → NoneBefore P xs (k + 1)
 none_more P xs k old here j low h = ⊎_elim (λ e. here (subst (λ i. P (slice_index_or xs i 0)) e h)) (λ ne. old j (omega (arith, low, ne)) h) (cases_eq j k)
 

@@ -1,3 +1,7 @@
+mod Calling
 mod Choosing
 mod Moved
+mod Owned
+mod Telling
+mod Viewing
 mod Walking

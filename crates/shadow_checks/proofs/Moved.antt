@@ -45,7 +45,7 @@ all_below p view q ids listed k d h =
     let at = get_or-map (λ (m : NetId). m.0) ids k d in
     below_count p (slice_index_or ids k d).0 (from_filter test (slice_index_or ids k d).0 (all_nets p) (subst (IsIn (slice_index_or ids k d).0) listed (subst (λ (n : ℕ). IsIn n (map (λ (m : NetId). m.0) ids)) at one))).0
 
-some_is : {A : Type 0} (x y : A) → Some x ≡ Some y → x ≡ y
+pub some_is : {A : Type 0} (x y : A) → Some x ≡ Some y → x ≡ y
 some_is x y e = cc e
 
 module _ (p : Policy) (view : List ℕ) (nets : HaveNets p) (apart : AreApartIn p view) (n : ℕ) (r seen : Interval) (here : Cidr) (there : n < length p.nets)
