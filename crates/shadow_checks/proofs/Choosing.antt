@@ -16,6 +16,10 @@ pub none_of : {A : Type 0} (P : Type 0) (Q : A → Type 0) (o : Option A) → ((
 none_of P Q None not h = h
 none_of P Q (Some x) not h = absurd (not x refl)
 
+pub some_of : {A : Type 0} (P : Type 0) (Q : A → Type 0) (o : Option A) (x : A) → o ≡ Some x → MatchOption o P Q → Q x
+some_of P Q None x e h = cc e
+some_of P Q (Some y) x e h = let same : y ≡ x = cc e in subst Q same h
+
 pub none_more : (P : ℕ → Type 0) (xs : List ℕ) (k : ℕ) → NoneBefore P xs k → (P (slice_index_or xs k 0) → ⊥) → NoneBefore P xs (k + 1)
 none_more P xs k old here j low h = ⊎_elim (λ e. here (subst (λ i. P (slice_index_or xs i 0)) e h)) (λ ne. old j (omega (arith, low, ne)) h) (cases_eq j k)
 

@@ -2,6 +2,7 @@ mod Calling
 mod Choosing
 mod Moved
 mod Owned
+mod Standing
 mod Telling
 mod Viewing
 mod Walking

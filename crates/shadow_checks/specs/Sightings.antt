@@ -18,9 +18,9 @@ abbrev pub site_of : Topo → Graph → Site
 site_of topo graph = record { policy = policy_of topo; zones = graph.zones }
 
 -- The views are those of the policy, a zone's for each zone and a router's for each router, and no two networks have one prefix in one.
-pub record IsReady (p : Policy) (zones : ℕ) (seen : Seen) : Type 0 where
+pub record IsReady (p : Policy) (count : ℕ) (seen : Seen) : Type 0 where
   pub policy : seen.policy ≡ p
-  pub zones : length seen.views.zones ≡ zones
+  pub zones : length seen.views.zones ≡ count
   pub routers : length seen.views.routers ≡ length p.routers
   pub shaped : IsShaped p
   pub apart : AreAllApart p seen.views
