@@ -41,7 +41,7 @@ module _ (p : Policy) (view : List ℕ) (nets : HaveNets p) (apart : AreApartIn 
       let w = holds_parts q at (sym (held_of p view k at q seen) ∙ placed.holds) in (
         omega (arith, w.high, is),
         λ b low high there.
-        passed m k at b below held (sym here) other (held_of p view k b q seen ∙ holds_from q b (omega (arith, w.low, low)) (omega (arith, high, is))) there,
+            passed m k at b below held (sym here) other (held_of p view k b q seen ∙ holds_from q b (omega (arith, w.low, low)) (omega (arith, high, is))) there,
       )
 
   pub placed_below : (k at : ℕ) → Some k ≡ place p view at → k < length p.nets

@@ -20,6 +20,6 @@ loop-k-preserved c =
     let at = get_or-map (λ (m : NetId). m.0) ids k (record { 0 = 0 }) in
     none_more (IsOther s.policy s.tags c.args.n.0 range) (map (λ (m : NetId). m.0) ids) k c.loop-k.invariant (λ w.
     elim c.else-m-n.branch [
-      else-m-n-via-then-m-n+else-lies_at v ↦ false≢true (sym v.if-lies_at.false ∙ v.lies_at.ensures.1 (subst (HasOneAt s.policy s.tags range) at w.here))
-    | else-m-n-via-else-m-n v ↦ w.differs (at ∙ v.if-m-n.false)
+      | else-m-n-via-then-m-n+else-lies_at v ↦ false≢true (sym v.if-lies_at.false ∙ v.lies_at.ensures.1 (subst (HasOneAt s.policy s.tags range) at w.here))
+      | else-m-n-via-else-m-n v ↦ w.differs (at ∙ v.if-m-n.false)
     ])
