@@ -1,5 +1,5 @@
 -- Which own addresses of a network lie at another, told by where they lie in the view.
-use Rattle.std.proofs.Common.{◌≡◌, ◌≢◌, ℕ, ◌+◌, ◌-◌, ◌^◌, ◌<◌, ◌≤◌, Bool, true, false, cond, List, length, map, refl, sym, ap, subst, ◌∙◌, ⊎_elim, arith}
+use Rattle.std.proofs.Common.{◌≡◌, ◌≢◌, ℕ, ◌+◌, ◌-◌, ◌^◌, ◌<◌, ◌≤◌, Bool, true, false, cond, List, length, map, refl, sym, ap, subst, ◌∙◌, arith}
 use Rattle.std.specs.Prelude.{nat_le, Option, Some, None, option_map, slice_index_or, IsTrue, MatchOption}
 use Rattle.std.specs.Option.{option_and_then}
 use Rattle.std.proofs.lemmas.Bool.{and_from, and_parts, le-leb, leb-true, false≢true}
@@ -22,7 +22,7 @@ use Rattle.policy_laws.proofs.Members.{from_filter}
 use Rattle.policy_laws.proofs.PermitLines.{in_at}
 use Rattle.policy_laws.proofs.Placed.{below_count, placed_at, held_by, seen_as, round_place}
 use Rattle.nat_view.specs.Seen.{AreApartIn, nets_within}
-use Rattle.shadow_checks.specs.Lying.{HaveNets, HasOneAt}
+use Rattle.shadow_checks.specs.Lying.{HaveNets}
 use Rattle.shadow_checks.specs.Shadows.{HasNoShadow, IsLeastShadow, IsOther, IsOtherPlace, IsFirstOf, NoneBefore}
 use Rattle.shadow_checks.proofs.Choosing.{match_weaker, numbers_rise, none_in, first_least}
 use Rattle.shadow_checks.proofs.Walking.{held_of, no_pair}

@@ -1,5 +1,5 @@
 -- What a fault names is there.
-use Rattle.std.proofs.Common.{◌≡◌, ℕ, ◌<◌, true, List, length, sym, subst, arith}
+use Rattle.std.proofs.Common.{◌≡◌, ℕ, ◌<◌, List, length, arith}
 use Rattle.std.specs.Prelude.{Option, Some, None, option_and_then, IsTrue}
 use Rattle.std.proofs.lemmas.Bool.{ltb-true}
 use Rattle.spoc_base.specs.Address.{Interval}

@@ -1,10 +1,10 @@
 -- Which fault comes first of addresses that lie at other networks.
-use Rattle.std.proofs.Common.{◌≡◌, ℕ, ◌<◌, ◌≤◌, Bool, true, false, not, List, [], ◌∷◌, ◌++◌, length, refl, sym, ap, subst, ◌∙◌, ⊎_elim, arith}
+use Rattle.std.proofs.Common.{◌≡◌, ℕ, ◌<◌, ◌≤◌, Bool, true, false, not, List, [], ◌∷◌, ◌++◌, length, refl, sym, ap, subst, ⊎_elim, arith}
 use Rattle.std.specs.Prelude.{◌==◌, ◌&&◌, ◌||◌, nat_lt, IsTrue}
-use Rattle.std.proofs.lemmas.Bool.{cases_Bool, cases_lt, cases_eq, eqb-true, ltb-true, lt-ltb, or_left, false≢true}
+use Rattle.std.proofs.lemmas.Bool.{cases_Bool, cases_lt, eqb-true, ltb-true, lt-ltb, or_left, false≢true}
 use Rattle.spoc_base.specs.declared.place.Source.{Source}
 use Rattle.spoc_base.specs.declared.fault.Fault.{Fault}
-use Rattle.policy_model.specs.Policy.{Policy, host_of, iface_of}
+use Rattle.policy_model.specs.Policy.{Policy, host_of}
 use Rattle.policy_model.specs.Zones.{Site, zone_count}
 use Rattle.policy_model.specs.Tags.{Views}
 use Rattle.policy_model.specs.Faults.{IsShadowed}

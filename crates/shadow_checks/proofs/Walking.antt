@@ -1,16 +1,16 @@
 -- Which addresses aren't placed at a network, past one that is placed at another.
-use Rattle.std.proofs.Common.{◌≡◌, ℕ, ◌+◌, ◌<◌, ◌≤◌, true, false, List, length, refl, sym, ap, subst, ◌∙◌, ⊎_elim, arith}
-use Rattle.std.specs.Prelude.{◌-◌, nat_lt, nat_le, Option, Some, None, IsTrue}
+use Rattle.std.proofs.Common.{◌≡◌, ℕ, ◌+◌, ◌<◌, ◌≤◌, true, false, List, length, sym, ap, ◌∙◌, ⊎_elim, arith}
+use Rattle.std.specs.Prelude.{◌-◌, nat_lt, nat_le, Option, Some, IsTrue}
 use Rattle.std.specs.Option.{option_map_or}
 use Rattle.std.proofs.lemmas.Bool.{and_from, and_parts, lt-ltb, le-leb, leb-true, cases_lt, cases_Bool}
 use Rattle.std.proofs.Math.Pow.{pow_pos}
 use Rattle.spoc_base.specs.Address.{Cidr, Interval, size_of, prefix_holds, addresses, within}
-use Rattle.policy_model.specs.Policy.{Policy, net_of}
-use Rattle.policy_model.specs.Places.{prefix_in, holds_in, length_in, place}
+use Rattle.policy_model.specs.Policy.{Policy}
+use Rattle.policy_model.specs.Places.{prefix_in, holds_in, place}
 use Rattle.policy_model.specs.Faults.{are_one_prefix}
 use Rattle.nat_view.specs.Seen.{AreApartIn}
 use Rattle.list_laws.proofs.Nesting.{holds_parts, holds_from}
-use Rattle.policy_laws.proofs.Placed.{IsPlacedAt, placed_at, held_by, round_place}
+use Rattle.policy_laws.proofs.Placed.{placed_at, held_by, round_place}
 use Rattle.shadow_checks.specs.Lying.{HaveNets, HasOneAt, NoneBetween, IsCommon}
 
 pub held_of : (p : Policy) (view : List ℕ) (n a : ℕ) (q : Cidr) → prefix_in p view n ≡ Some q → holds_in p view n a ≡ prefix_holds q a

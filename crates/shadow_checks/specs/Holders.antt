@@ -1,5 +1,5 @@
 -- The first holder of addresses in a view that has one at another network: hosts come before interfaces.
-use Rattle.std.specs.Prelude.{◌≡◌, ℕ, ◌<◌, ◌≤◌, List, length}
+use Rattle.std.specs.Prelude.{ℕ, ◌<◌, ◌≤◌, List, length}
 use Rattle.policy_model.specs.Policy.{Policy, host_of}
 use Rattle.policy_model.specs.FirstFault.{IsIfaceShadowed}
 use Rattle.shadow_checks.specs.Shadows.{HasNoShadow, IsLeastShadow}

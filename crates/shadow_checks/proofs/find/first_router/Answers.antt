@@ -1,8 +1,7 @@
-use Rattle.std.proofs.Common.{◌≡◌, ◌∙◌, ◌<◌, ◌≤◌, ℕ, List, length, refl, sym, ap, subst, arith}
+use Rattle.std.proofs.Common.{◌≡◌, ◌∙◌, ◌<◌, ℕ, List, length, refl, sym, ap, subst, arith}
 use Rattle.std.proofs.lemmas.Bool.{lt-ltb}
 use Rattle.std.proofs.lemmas.List.{length-map}
 use Rattle.policy_model.specs.Policy.{Router}
-use Rattle.policy_model.specs.Tags.{router_view}
 use Rattle.policy_model.specs.FirstFault.{AtRouter}
 use Rattle.topology.specs.Seen.{router_seen}
 use Rattle.topology.specs.View.{policy_of, sources_of}

@@ -1,6 +1,5 @@
-use Rattle.std.proofs.Common.{◌≡◌, ◌<◌, ◌≤◌, ℕ, List, length, sym, ap, subst, arith}
+use Rattle.std.proofs.Common.{◌≡◌, ◌<◌, ℕ, List, length, sym, ap, subst, arith}
 use Rattle.std.proofs.lemmas.Bool.{lt-ltb}
-use Rattle.policy_model.specs.Tags.{zone_view}
 use Rattle.policy_model.specs.FirstFault.{AtZone}
 use Rattle.topology.specs.View.{policy_of}
 use Rattle.nat_view.specs.Seen.{Sight, AreApartIn}

@@ -1,4 +1,4 @@
-use Rattle.std.proofs.Common.{ℕ, sym, subst}
+use Rattle.std.proofs.Common.{sym, subst}
 use Rattle.std.specs.Prelude.{Option, IfOk, MatchOption}
 use Rattle.spoc_base.specs.Shown.{interval_of}
 use Rattle.spoc_base.specs.declared.ids.NetId.{NetId}

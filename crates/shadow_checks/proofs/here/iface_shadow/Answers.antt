@@ -1,5 +1,5 @@
 use Rattle.std.proofs.Common.{◌≡◌, ◌∙◌, ℕ, Some, sym, ap, subst}
-use Rattle.std.specs.Prelude.{Option, option_map, MatchOption}
+use Rattle.std.specs.Prelude.{option_map, MatchOption}
 use Rattle.spoc_base.specs.declared.address.Addr.{Addr}
 use Rattle.spoc_base.specs.declared.ids.NetId.{NetId}
 use Rattle.policy_model.specs.Policy.{Policy, Iface, iface_of, net_at}

@@ -1,7 +1,6 @@
-use Rattle.std.proofs.Common.{◌≡◌, ℕ, length, map, true, false, sym, subst, ap, ◌∙◌, refl}
+use Rattle.std.proofs.Common.{map, sym, subst, ◌∙◌}
 use Rattle.std.proofs.lemmas.Bool.{false≢true}
 use Rattle.std.proofs.Math.ListN.{get_or-map}
-use Rattle.std.specs.Prelude.{slice_index_or}
 use Rattle.spoc_base.specs.Shown.{interval_of}
 use Rattle.spoc_base.specs.declared.ids.NetId.{NetId}
 use Rattle.nat_view.specs.Sights.{sight_of}

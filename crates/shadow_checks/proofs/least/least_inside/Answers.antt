@@ -1,4 +1,4 @@
-use Rattle.std.proofs.Common.{◌≡◌, ◌∙◌, ℕ, List, length, map, sym, ap}
+use Rattle.std.proofs.Common.{◌∙◌, List, length, map, sym, ap}
 use Rattle.std.proofs.lemmas.List.{length-map}
 use Rattle.spoc_base.specs.Shown.{cidr_of, interval_of}
 use Rattle.spoc_base.specs.declared.ids.NetId.{NetId}

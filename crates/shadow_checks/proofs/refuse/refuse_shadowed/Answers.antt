@@ -1,4 +1,4 @@
-use Rattle.std.proofs.Common.{◌≡◌, ◌∙◌, ℕ, length, sym}
+use Rattle.std.proofs.Common.{◌≡◌, ◌∙◌, length, sym}
 use Rattle.policy_model.specs.Headline.{Meaning}
 use Rattle.policy_model.specs.Zones.{zone_count}
 use Rattle.topology.specs.First.{HasNone as HasNoFault, TellsFirst}

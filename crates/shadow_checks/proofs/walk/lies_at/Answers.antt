@@ -1,4 +1,4 @@
-use Rattle.std.proofs.Common.{◌≡◌, ℕ, subst, arith}
+use Rattle.std.proofs.Common.{subst, arith}
 use Rattle.std.proofs.lemmas.Bool.{false≢true}
 use Rattle.spoc_base.specs.Address.{Interval}
 use Rattle.spoc_base.specs.Shown.{cidr_of, interval_of}

@@ -1,4 +1,3 @@
-use Rattle.std.proofs.Common.{◌≡◌, ℕ, Some}
 use Rattle.nat_view.specs.Sights.{sight_of}
 use Rattle.spoc_base.specs.Shown.{cidr_of}
 use Rattle.shadow_checks.proofs.Walking.{past_end, placed_below}
