@@ -1,0 +1,152 @@
+-- Which fault comes first of addresses that lie at other networks.
+use Rattle.std.proofs.Common.{◌≡◌, ℕ, ◌<◌, ◌≤◌, Bool, true, false, not, List, [], ◌∷◌, ◌++◌, length, refl, sym, ap, subst, ⊎_elim, arith}
+use Rattle.std.specs.Prelude.{◌==◌, ◌&&◌, ◌||◌, nat_lt, IsTrue}
+use Rattle.std.proofs.lemmas.Bool.{cases_Bool, cases_lt, eqb-true, ltb-true, lt-ltb, or_left, false≢true}
+use Rattle.spoc_base.specs.declared.place.Source.{Source}
+use Rattle.spoc_base.specs.declared.fault.Fault.{Fault}
+use Rattle.policy_model.specs.Policy.{Policy, host_of}
+use Rattle.policy_model.specs.Zones.{Site, zone_count}
+use Rattle.policy_model.specs.Tags.{Views}
+use Rattle.policy_model.specs.Faults.{IsShadowed}
+use Rattle.policy_model.specs.Headline.{Meaning, permits_in}
+use Rattle.policy_model.specs.FirstFault.{FaultCase, AreaSplit, NatConflict, NatTwice, NatInside, LimitViews, SamePrefix, HostShadowed, IfaceShadowed, ManagedEnd, LimitPermits, NoPath, HiddenEnd, LimitLines, LimitRoutes, NoHopAddress, AmbiguousHop, ViewPlace, AtZone, AtRouter, view_at, is_there, place_order, HasFault, IsIfaceShadowed, is_lower, order_of}
+use Rattle.topology.specs.First.{IsWithin, TellsFirst, HasNone as HasNoFault}
+use Rattle.topology.specs.Told.{IsTold}
+use Rattle.nat_view.specs.Seen.{has_view}
+use Rattle.shadow_checks.specs.Holders.{IsFirstHost, IsFirstIface, HasNoneHere}
+use Rattle.shadow_checks.specs.Sightings.{HasNone, IsFirst, case_of}
+use Rattle.shadow_checks.specs.declared.here.Holder.{Holder}
+use Rattle.shadow_checks.specs.declared.here.Holder.TheVariants.{Host, Iface}
+
+-- ---- the order of words
+
+not_or : (a b c : Bool) → a ≡ false → (b ≡ true → not c ≡ true) → not (a || (b && c)) ≡ true
+not_or true b c e f = absurd (false≢true (sym e))
+not_or false true c e f = f refl
+not_or false false c e f = refl
+
+not_less : (x y : ℕ) → y ≤ x → nat_lt x y ≡ false
+not_less x y h = ⊎_elim (λ t. let less = ltb-true x y t in absurd (omega (arith, less, h))) (λ f. f) (cases_Bool (nat_lt x y))
+
+not_before : (x y : ℕ) (xs ys : List ℕ) → y ≤ x → (x ≡ y → not (is_lower xs ys) ≡ true) → not (is_lower (x ∷ xs) (y ∷ ys)) ≡ true
+not_before x y xs ys low same = not_or (nat_lt x y) (x == y) (is_lower xs ys) (not_less x y low) (λ e. same (eqb-true x y e))
+
+one_before : (x y : ℕ) → x < y → is_lower (x ∷ []) (y ∷ []) ≡ true
+one_before x y h = or_left (nat_lt x y) ((x == y) && false) (lt-ltb x y h)
+
+-- a place that isn't before another, or is the same one
+by_place : (other at : ViewPlace) (xs ys : List ℕ) → (is_lower (place_order other) (place_order at) ≡ true → ⊥) → (other ≡ at → not (is_lower xs ys) ≡ true) →
+    not (is_lower (6 ∷ (place_order other ++ xs)) (6 ∷ (place_order at ++ ys))) ≡ true
+by_place (AtZone z) (AtZone y) xs ys late same = not_before z y xs ys (⊎_elim (λ less. absurd (late (one_before z y less))) (λ high. high) (cases_lt z y)) (λ e. same (ap AtZone e))
+by_place (AtZone z) (AtRouter r) xs ys late same = absurd (late refl)
+by_place (AtRouter r) (AtZone z) xs ys late same = refl
+by_place (AtRouter r) (AtRouter t) xs ys late same = not_before r t xs ys (⊎_elim (λ less. absurd (late (one_before r t less))) (λ high. high) (cases_lt r t)) (λ e. same (ap AtRouter e))
+
+by_numbers : (kind n k m l : ℕ) → m ≤ n → (n ≡ m → l ≤ k) → not (is_lower (kind ∷ n ∷ k ∷ []) (kind ∷ m ∷ l ∷ [])) ≡ true
+by_numbers kind n k m l low least =
+    not_before kind kind (n ∷ k ∷ []) (m ∷ l ∷ []) (omega arith) (λ _. not_before n m (k ∷ []) (l ∷ []) low (λ e. not_before k l [] [] (least e) (λ _. refl)))
+
+-- ---- the row
+
+by_row : (C : FaultCase → Type 0) → ((host net : ℕ) (at : ViewPlace) → C (HostShadowed host net at)) → ((iface net : ℕ) (at : ViewPlace) → C (IfaceShadowed iface net at)) →
+    (f : FaultCase) → IsWithin 6 6 f → C f
+by_row C one two (AreaSplit a b) w = absurd (omega (arith, w.lower))
+by_row C one two (NatConflict t z) w = absurd (omega (arith, w.lower))
+by_row C one two (NatTwice n z t o) w = absurd (omega (arith, w.lower))
+by_row C one two (NatInside n t) w = absurd (omega (arith, w.lower))
+by_row C one two LimitViews w = absurd (omega (arith, w.lower))
+by_row C one two (SamePrefix n o a) w = absurd (omega (arith, w.lower))
+by_row C one two (HostShadowed h n a) w = one h n a
+by_row C one two (IfaceShadowed i n a) w = two i n a
+by_row C one two (ManagedEnd s i) w = absurd (omega (arith, w.upper))
+by_row C one two LimitPermits w = absurd (omega (arith, w.upper))
+by_row C one two (NoPath a b) w = absurd (omega (arith, w.upper))
+by_row C one two (HiddenEnd p n z) w = absurd (omega (arith, w.upper))
+by_row C one two LimitLines w = absurd (omega (arith, w.upper))
+by_row C one two LimitRoutes w = absurd (omega (arith, w.upper))
+by_row C one two (NoHopAddress r n i) w = absurd (omega (arith, w.upper))
+by_row C one two (AmbiguousHop r n a b) w = absurd (omega (arith, w.upper))
+
+-- a meaning at the same site and views
+pub at_meaning : (Q : Meaning → Type 0) (s : Site) (v : Views) → ((areas : List (List ℕ)) → Q (record { site = s; views = v; areas = areas })) → (m : Meaning) → m.site ≡ s → m.views ≡ v → Q m
+at_meaning Q s v f m e g =
+    subst (λ (x : Site). Q (record { site = x; views = m.views; areas = m.areas })) (sym e)
+    (subst (λ (w : Views). Q (record { site = s; views = w; areas = m.areas })) (sym g) (f m.areas))
+
+module _ (s : Site) (v : Views) (zones : zone_count s ≡ length v.zones) (routers : length v.routers ≡ length s.policy.routers) (areas : List (List ℕ)) where
+  abbrev p : Policy
+  p = s.policy
+
+  abbrev m : Meaning
+  m = record { site = s; views = v; areas = areas }
+
+  viewed_of : (at : ViewPlace) → IsTrue (is_there s at) → IsTrue (has_view v at)
+  viewed_of (AtZone z) h = subst (λ (n : ℕ). IsTrue (nat_lt z n)) zones h
+  viewed_of (AtRouter r) h = subst (λ (n : ℕ). IsTrue (nat_lt r n)) (sym routers) h
+
+  there_of : (at : ViewPlace) → IsTrue (has_view v at) → IsTrue (is_there s at)
+  there_of (AtZone z) h = subst (λ (n : ℕ). IsTrue (nat_lt z n)) (sym zones) h
+  there_of (AtRouter r) h = subst (λ (n : ℕ). IsTrue (nat_lt r n)) routers h
+
+  pub no_fault : HasNone p v → HasNoFault m 6 6
+  no_fault none f within =
+      by_row (λ g. HasFault m g → ⊥) (λ h n at w. (none at (viewed_of at w.1)).hosts h w.0 n w.2) (λ i n at w. (none at (viewed_of at w.1)).ifaces i w.0 n w.2) f within
+
+  module _ (at : ViewPlace) (before : (other : ViewPlace) → IsTrue (has_view v other) → IsTrue (is_lower (place_order other) (place_order at)) → HasNoneHere p (view_at v other)) where
+    host_late : (h n : ℕ) (other : ViewPlace) → HasFault m (HostShadowed h n other) → is_lower (place_order other) (place_order at) ≡ true → ⊥
+    host_late h n other w low = (before other (viewed_of other w.1) low).hosts h w.0 n w.2
+
+    iface_late : (i n : ℕ) (other : ViewPlace) → HasFault m (IfaceShadowed i n other) → is_lower (place_order other) (place_order at) ≡ true → ⊥
+    iface_late i n other w low = (before other (viewed_of other w.1) low).ifaces i w.0 n w.2
+
+    module _ (h l : ℕ) (here : IsFirstHost p (view_at v at) h l) where
+      after_host : (k n : ℕ) (other : ViewPlace) → HasFault m (HostShadowed k n other) →
+          not (is_lower (order_of (permits_in m) (HostShadowed k n other)) (order_of (permits_in m) (HostShadowed h l at))) ≡ true
+      after_host k n other w =
+          by_place other at (0 ∷ k ∷ n ∷ []) (0 ∷ h ∷ l ∷ []) (host_late k n other w)
+          (λ e. let same = subst (λ (x : ViewPlace). HasFault m (HostShadowed k n x)) e w in
+          by_numbers 0 k n h l (⊎_elim (λ less. absurd (here.before k less n same.2)) (λ high. high) (cases_lt k h))
+          (λ g. here.least.least n (subst (λ (x : ℕ). IsShadowed p (view_at v at) (host_of p x).net (host_of p x).range n) g same.2)))
+
+      host_first : (g : FaultCase) → IsWithin 6 6 g → HasFault m g → IsTrue (not (is_lower (order_of (permits_in m) g) (order_of (permits_in m) (HostShadowed h l at))))
+      host_first =
+          by_row (λ g. HasFault m g → IsTrue (not (is_lower (order_of (permits_in m) g) (order_of (permits_in m) (HostShadowed h l at))))) after_host
+          (λ i n other w. by_place other at (1 ∷ i ∷ n ∷ []) (0 ∷ h ∷ l ∷ []) (iface_late i n other w) (λ e. refl))
+
+    module _ (i l : ℕ) (here : IsFirstIface p (view_at v at) i l) where
+      after_iface : (k n : ℕ) (other : ViewPlace) → HasFault m (IfaceShadowed k n other) →
+          not (is_lower (order_of (permits_in m) (IfaceShadowed k n other)) (order_of (permits_in m) (IfaceShadowed i l at))) ≡ true
+      after_iface k n other w =
+          by_place other at (1 ∷ k ∷ n ∷ []) (1 ∷ i ∷ l ∷ []) (iface_late k n other w)
+          (λ e. let same = subst (λ (x : ViewPlace). HasFault m (IfaceShadowed k n x)) e w in
+          by_numbers 1 k n i l (⊎_elim (λ less. absurd (here.before k less n same.2)) (λ high. high) (cases_lt k i))
+          (λ g. here.least.least n (subst (λ (x : ℕ). IsIfaceShadowed p (view_at v at) x n) g same.2)))
+
+      iface_first : (g : FaultCase) → IsWithin 6 6 g → HasFault m g → IsTrue (not (is_lower (order_of (permits_in m) g) (order_of (permits_in m) (IfaceShadowed i l at))))
+      iface_first =
+          by_row (λ g. HasFault m g → IsTrue (not (is_lower (order_of (permits_in m) g) (order_of (permits_in m) (IfaceShadowed i l at)))))
+          (λ h n other w. by_place other at (0 ∷ h ∷ n ∷ []) (1 ∷ i ∷ l ∷ []) (host_late h n other w)
+          (λ e. let same = subst (λ (x : ViewPlace). HasFault m (HostShadowed h n x)) e w in absurd (here.hosts h same.0 n same.2)))
+          after_iface
+
+  pub tells_first : (sources : List Source) (at : ViewPlace) (holder : Holder) (l : ℕ) (told : Fault) → IsFirst p v at holder l → IsTold sources s (case_of at holder l) told → TellsFirst sources m 6 6 told
+  tells_first sources at (Host h) l told first tells =
+      record {
+        case = HostShadowed h.0 l at;
+        first = record {
+          within = record { lower = omega arith; upper = omega arith };
+          there = (first.here.there, there_of at first.viewed, first.here.least.there);
+          first = host_first at first.before h.0 l first.here;
+        };
+        tells = tells;
+      }
+  tells_first sources at (Iface i) l told first tells =
+      record {
+        case = IfaceShadowed i.0 l at;
+        first = record {
+          within = record { lower = omega arith; upper = omega arith };
+          there = (first.here.there, there_of at first.viewed, first.here.least.there);
+          first = iface_first at first.before i.0 l first.here;
+        };
+        tells = tells;
+      }
