@@ -11,8 +11,6 @@ use Rattle.spoc_base.specs.declared.fault.Fault.{Fault}
 use Rattle.spoc_base.specs.declared.fault.Fault.TheVariants as fault
 use Rattle.spoc_base.specs.declared.fault.LimitWord.{LimitWord}
 use Rattle.spoc_base.specs.declared.fault.LimitWord.TheVariants as limit
-use Rattle.spoc_base.specs.declared.fault.LaterWord.{LaterWord}
-use Rattle.spoc_base.specs.declared.fault.LaterWord.TheVariants as later
 use Rattle.spoc_base.specs.declared.fault.HopAt.{HopAt}
 use Rattle.spoc_base.specs.declared.fault.HopAt.TheVariants as hop
 
@@ -90,15 +88,6 @@ limit_word limit.Services = codes "services"
 limit_word limit.Names = codes "names"
 limit_word limit.Nesting = codes "nesting"
 
--- what isn't compiled yet
-abbrev pub later_word : LaterWord → List ℕ
-later_word later.Managed = codes "managed"
-later_word later.Restriction = codes "restriction"
-later_word later.Objects = codes "objects"
-later_word later.Nat = codes "nat"
-later_word later.Nested = codes "nested"
-later_word later.Asa = codes "ASA"
-
 -- a place in the sources: the path of the file and the offset
 abbrev pub place_text : Files → ℕ → ℕ → List ℕ
 place_text sources file offset = value_text (source_at sources file).0 ++ value_text (decimal offset)
@@ -109,8 +98,6 @@ fault_word (fault.Lex file offset) = codes "Lex"
 fault_word (fault.LeftOut file offset word) = codes "LeftOut"
 fault_word (fault.Deep file offset) = codes "Deep"
 fault_word (fault.Syntax file offset) = codes "Syntax"
-fault_word fault.Form = codes "Form"
-fault_word fault.Names = codes "Names"
 fault_word (fault.Twice name) = codes "Twice"
 fault_word (fault.Unknown name) = codes "Unknown"
 fault_word (fault.Circle name) = codes "Circle"
@@ -125,7 +112,6 @@ fault_word (fault.SamePrefix first second at) = codes "SamePrefix"
 fault_word (fault.HostShadowed name net at) = codes "HostShadowed"
 fault_word (fault.ManagedEnd service iface) = codes "ManagedEnd"
 fault_word fault.LimitPermits = codes "Limit permits"
-fault_word (fault.Later word) = codes "Later"
 fault_word (fault.NoPath src dst) = codes "NoPath"
 fault_word fault.LimitLines = codes "Limit lines"
 fault_word fault.LimitRoutes = codes "Limit routes"
@@ -140,7 +126,6 @@ detail_text sources (fault.Deep file offset) = place_text sources file offset
 detail_text sources (fault.Syntax file offset) = place_text sources file offset
 detail_text sources (fault.Shape k name) = value_text (codes "S" ++ decimal k)
 detail_text sources (fault.Limit what) = value_text (limit_word what)
-detail_text sources (fault.Later word) = value_text (later_word word)
 detail_text sources other = []
 
 -- the things that are named, in their order

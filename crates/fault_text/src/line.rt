@@ -1,9 +1,9 @@
 ghost use Rattle.std.specs.Prelude.{◌≡◌, ◌++◌, ◌^◌, ◌<◌, IfOk, map, codes, length};
 ghost use Rattle.std.specs.Fmt.{decimal};
 ghost use Rattle.fault_text.specs.Texts.{pair_of, source_at, part_of, text_at, value_text, kind_word, named_word, bare_name, name_under, name_text, names_text};
-ghost use Rattle.fault_text.specs.Texts.{hop_text, limit_word, later_word, place_text, fault_word, detail_text, things_text, fault_line};
+ghost use Rattle.fault_text.specs.Texts.{hop_text, limit_word, place_text, fault_word, detail_text, things_text, fault_line};
 
-use spoc_base::{Fault, HopAt, Kind, LaterWord, LimitWord, Named, NoMemory, Source, Span, Text};
+use spoc_base::{Fault, HopAt, Kind, LimitWord, Named, NoMemory, Source, Span, Text};
 use std::alloc::Global;
 
 // The path of a source, and nothing where there is none.
@@ -158,20 +158,6 @@ fn limit_word(what: LimitWord) -> &'static [u8]
     }
 }
 
-// What isn't compiled yet.
-fn later_word(word: LaterWord) -> &'static [u8]
-    ensures { result.now ≡ later_word word }
-{
-    match word {
-        LaterWord::Managed => b"managed",
-        LaterWord::Restriction => b"restriction",
-        LaterWord::Objects => b"objects",
-        LaterWord::Nat => b"nat",
-        LaterWord::Nested => b"nested",
-        LaterWord::Asa => b"ASA",
-    }
-}
-
 // Adds a place: the path of its file and the offset.
 fn add_place(
     line: &mut Vec<u8>,
@@ -205,8 +191,6 @@ fn fault_word(fault: Fault) -> &'static [u8]
         Fault::LeftOut { .. } => b"LeftOut",
         Fault::Deep { .. } => b"Deep",
         Fault::Syntax { .. } => b"Syntax",
-        Fault::Form => b"Form",
-        Fault::Names => b"Names",
         Fault::Twice { .. } => b"Twice",
         Fault::Unknown { .. } => b"Unknown",
         Fault::Circle { .. } => b"Circle",
@@ -221,7 +205,6 @@ fn fault_word(fault: Fault) -> &'static [u8]
         Fault::HostShadowed { .. } => b"HostShadowed",
         Fault::ManagedEnd { .. } => b"ManagedEnd",
         Fault::LimitPermits => b"Limit permits",
-        Fault::Later { .. } => b"Later",
         Fault::NoPath { .. } => b"NoPath",
         Fault::LimitLines => b"Limit lines",
         Fault::LimitRoutes => b"Limit routes",
@@ -249,7 +232,6 @@ fn add_detail(
         }
         Fault::Shape { k, .. } => add_rule(line, alloc, k),
         Fault::Limit { what } => add_value(line, limit_word(what)),
-        Fault::Later { word } => add_value(line, later_word(word)),
         _ => Ok(()),
     }
 }

@@ -42,11 +42,6 @@ pub enum Fault {
         file: u32,
         offset: u32,
     },
-    /// There is more than one policy file, or the one isn't of the narrow form that is compiled so
-    /// far.
-    Form,
-    /// The names, addresses or services of the one policy file don't fit together.
-    Names,
     /// A second declaration has this kind and name: the first such one is told. Names are compared
     /// over all files, but those of interfaces within one router, and those of tags within one
     /// network.
@@ -136,10 +131,6 @@ pub enum Fault {
     /// The rules give more than 4,000,000 permits, each with one source, one destination and one
     /// protocol.
     LimitPermits,
-    /// What the policy has is read, but not compiled yet.
-    Later {
-        word: LaterWord,
-    },
     /// A rule permits packets between these two networks, their zones differ, and no allowed walk
     /// joins the zones.
     NoPath {
@@ -187,23 +178,6 @@ pub enum LimitWord {
     /// Groups or protocolgroups that nest more than 64 deep. One that names no other of its kind
     /// has depth 1.
     Nesting,
-}
-
-/// What of a policy is read, but not compiled yet. Of several the variant that stands first is told.
-#[derive(Clone, Copy, Debug, PartialEq, Eq)]
-pub enum LaterWord {
-    /// More than one managed router.
-    Managed,
-    /// A path restriction.
-    Restriction,
-    /// A service other than one `permit` from its user, a network, to a network, of one TCP port.
-    Objects,
-    /// A translation of a network, or an interface that binds one.
-    Nat,
-    /// Two networks whose prefixes meet.
-    Nested,
-    /// A managed router of the model ASA.
-    Asa,
 }
 
 /// How a router sends on packets to a network: its hop, as it is printed.

@@ -17,7 +17,7 @@ pub mod transport;
 
 pub use address::{Addr, AddrRange, Prefix};
 pub use dialect::Dialect;
-pub use fault::{Fault, HopAt, LaterWord, LimitWord, Refusal};
+pub use fault::{Fault, HopAt, LimitWord, Refusal};
 pub use ids::{HostId, IfId, NetId, RouterId, ServiceId, TagId, ZoneId};
 pub use place::{Kind, Named, Source, Span};
 pub use row::Row;

@@ -1,6 +1,6 @@
 // The line of each fault, over one source whose text is names.
 use crate::line::fault_line;
-use spoc_base::{Fault, HopAt, Kind, LaterWord, LimitWord, Named, NoMemory, Source, Span, Text};
+use spoc_base::{Fault, HopAt, Kind, LimitWord, Named, NoMemory, Source, Span, Text};
 use std::alloc::Global;
 use std::process::Abort;
 use std::test::Fail;
@@ -78,10 +78,6 @@ fn limit(what: LimitWord) -> Fault {
     Fault::Limit { what }
 }
 
-fn later(word: LaterWord) -> Fault {
-    Fault::Later { word }
-}
-
 // Places in the files.
 fn compare_places(rt: &impl Abort, alloc: Global) -> Result<(), NoMemory> {
     let file = 0;
@@ -95,8 +91,6 @@ fn compare_places(rt: &impl Abort, alloc: Global) -> Result<(), NoMemory> {
         ),
         (Fault::Deep { file, offset }, "fault Deep p 210\n"),
         (Fault::Syntax { file, offset }, "fault Syntax p 210\n"),
-        (Fault::Form, "fault Form\n"),
-        (Fault::Names, "fault Names\n"),
     ];
     compare(rt, alloc, &lines)
 }
@@ -131,7 +125,7 @@ fn compare_names(rt: &impl Abort, alloc: Global) -> Result<(), NoMemory> {
     compare(rt, alloc, &lines)
 }
 
-// Limits, and what isn't compiled yet.
+// Limits.
 fn compare_words(rt: &impl Abort, alloc: Global) -> Result<(), NoMemory> {
     let lines = [
         (limit(LimitWord::Networks), "fault Limit networks\n"),
@@ -145,12 +139,6 @@ fn compare_words(rt: &impl Abort, alloc: Global) -> Result<(), NoMemory> {
         (Fault::LimitPermits, "fault Limit permits\n"),
         (Fault::LimitLines, "fault Limit lines\n"),
         (Fault::LimitRoutes, "fault Limit routes\n"),
-        (later(LaterWord::Managed), "fault Later managed\n"),
-        (later(LaterWord::Restriction), "fault Later restriction\n"),
-        (later(LaterWord::Objects), "fault Later objects\n"),
-        (later(LaterWord::Nat), "fault Later nat\n"),
-        (later(LaterWord::Nested), "fault Later nested\n"),
-        (later(LaterWord::Asa), "fault Later ASA\n"),
     ];
     compare(rt, alloc, &lines)
 }
