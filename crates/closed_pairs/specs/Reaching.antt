@@ -1,5 +1,5 @@
 -- Whether a line reaches into a pair of networks, from the numbers of permits, in one view.
-use Rattle.std.specs.Prelude.{ℕ, ◌<◌, not, ◌&&◌, ◌==◌, Bool, List, ◌++◌, filter, flat_map, map, Option, Some, None, if◌then◌else◌}
+use Rattle.std.specs.Prelude.{◌≡◌, ℕ, ◌<◌, ◌⊎◌, not, ◌&&◌, ◌==◌, Bool, List, ◌++◌, filter, flat_map, length, map, Option, Some, None, if◌then◌else◌}
 use Rattle.std.specs.List.{All, list_any}
 use Rattle.spoc_base.specs.Address.{Cidr}
 use Rattle.policy_model.specs.Policy.{Policy}
@@ -59,3 +59,17 @@ encloses_in p view outer e = not ((outer.src == e.src) && (outer.dst == e.dst)) 
 -- the pairs from a network to others, without one pair
 abbrev pub others_from : NetPair → List ℕ → ℕ → List NetPair
 others_from outer dsts src = filter (λ e. not ((outer.src == e.src) && (outer.dst == e.dst))) (map (λ dst. record { src = src; dst = dst }) dsts)
+
+-- a line of one of the pairs that encloses the inner one reaches into it
+abbrev pub is_closed_among : Policy → List ℕ → List Permit → List PairNumbers → PairNumbers → Bool
+is_closed_among p view permits pairs inner =
+    list_any (λ outer. encloses_in p view outer.pair inner.pair && list_any (reaches_pair p view permits inner) (lines_between p view permits outer)) pairs
+
+-- the first pair comes before the second, by source and then by destination
+abbrev pub IsBefore : NetPair → NetPair → Type 0
+IsBefore a b = (a.src < b.src) ⊎ ((a.src ≡ b.src) × (a.dst < b.dst))
+
+-- The networks of the pair are there.
+pub record AreThere (p : Policy) (e : NetPair) : Type 0 where
+  pub src : e.src < length p.nets
+  pub dst : e.dst < length p.nets

@@ -1,7 +1,9 @@
 //! Whether a pair of networks must be closed at an interface: whether a line of a pair round it
-//! reaches into it, past its own lines. And the pairs that lie inside a pair.
+//! reaches into it, past its own lines; which of the pairs at an interface are closed; and the pairs
+//! that lie inside a pair.
 #![tactic(auto)]
 
+mod closing;
 mod inside;
 mod laws;
 mod lines;
@@ -10,6 +12,7 @@ mod parts;
 mod permits;
 mod reach;
 
+pub use closing::closed_among;
 pub use inside::pairs_inside;
 pub use laws::{closed_as_defined, inside_as_defined, reaches_as_defined};
 pub use pairs::PairPermits;

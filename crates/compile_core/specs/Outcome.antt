@@ -19,4 +19,4 @@ policy_in sources = policy_said (declared (source_texts sources))
 -- The files and the counts of a policy, or the line of its first fault, by the paths and texts of its sources: that of the texts and of what they declare
 -- comes before all others.
 abbrev pub outcome_of : List (List ℕ × List ℕ) → Result Written (List ℕ)
-outcome_of sources = unless (fault_of_sources (source_texts sources)) (fault_line sources) (outcome_for sources (meaning_of (policy_in sources)))
+outcome_of sources = unless (fault_of_sources (source_texts sources)) (fault_line sources) (outcome_for (meaning_of (policy_in sources)))

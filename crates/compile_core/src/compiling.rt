@@ -45,9 +45,9 @@ fn compile_said(alloc: Global, sources: &[Source], topo: Topo<'_>) -> Result<Com
 /// bracket that opens a seventeenth level, what is no declaration); of the declarations (a name that
 /// is declared twice, or used and not declared, a group that reaches itself, what must not stand in
 /// a declaration, a limit that is passed); of areas (one that is split); of tags (a conflict, a
-/// network that is translated twice, or in its own zone); of services (a managed router's interface
-/// as an end, too many permits); then `Later` and what isn't compiled yet; then that of walks (a
-/// permit that none carries, too many lines).
+/// network that is translated twice, or in its own zone); of views (too many that differ, two networks
+/// with one prefix, an address at another network); of services (a managed router's interface as an
+/// end, too many permits); of walks (a permit that none carries, too many lines).
 ///
 /// The files of a policy that is accepted are the texts of configurations that decide exactly
 /// (`AreExact`), and no two have one name, so that none is written over another.

@@ -1,5 +1,5 @@
 -- What an error of building says.
-use Rattle.std.specs.Prelude.{◌≡◌}
+use Rattle.std.specs.Prelude.{◌≡◌, ℕ, ◌+◌}
 use Rattle.policy_model.specs.Policy.{Policy}
 use Rattle.policy_model.specs.Tags.{Views}
 use Rattle.policy_model.specs.FirstFault.{ViewPlace, AtZone, AtRouter}
@@ -14,6 +14,11 @@ use Rattle.nat_view.specs.declared.fail.ViewFail.TheVariants.{Same, Memory}
 abbrev pub place_seen : ViewAt → ViewPlace
 place_seen (at.Zone z) = AtZone z.0
 place_seen (at.Router r) = AtRouter r.0
+
+-- the number of a place, all zones coming before all routers
+abbrev pub place_number : ℕ → ViewAt → ℕ
+place_number zones (at.Zone z) = z.0
+place_number zones (at.Router r) = zones + r.0
 
 -- the failure of a tree, at its place
 abbrev pub IsFailAt : ViewPlace → TreeFail → ViewFail → Type 0

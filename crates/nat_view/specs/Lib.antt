@@ -5,3 +5,4 @@ pub mod Places
 pub mod Sights
 pub mod Fails
 pub mod Views
+pub mod Firsts

@@ -2,9 +2,11 @@ ghost use Rattle.topology.specs.View.{policy_of};
 ghost use Rattle.nat_view.specs.Places.{AreTables};
 ghost use Rattle.std.proofs.Props.{props};
 
+use crate::fail::ViewAt;
 use crate::table::Table;
 use crate::view::View;
-use spoc_base::{RouterId, ZoneId};
+use spoc_base::{NoMemory, RouterId, ZoneId};
+use std::alloc::Global;
 use topology::Topo;
 
 /// The views of all zones and routers. Those with equal tags share one table.
@@ -18,7 +20,10 @@ pub struct Views<'a> {
 }
 
 impl<'a> Views<'a> {
-    ghost use Rattle.std.specs.Prelude.{◌≡◌, ◌<◌, length};
+    ghost use Rattle.std.specs.Prelude.{◌≡◌, ◌<◌, length, map, IfOk};
+    ghost use Rattle.policy_model.specs.Faults.{all_views};
+    ghost use Rattle.nat_view.specs.Firsts.{AreFirsts};
+    ghost use Rattle.nat_view.specs.Fails.{place_number};
     ghost use Rattle.std.specs.Prelude.{slice_index_or, []};
     ghost use Rattle.policy_model.specs.Tags.{zone_view, router_view};
     ghost use Rattle.topology.specs.View.{policy_of};
@@ -48,5 +53,21 @@ impl<'a> Views<'a> {
         ensures { sight_of result ≡ record { policy = (seen_of self.now).policy; tags = router_view (seen_of self.now).views r.0 } }
     {
         self.at(self.zones + r.0 as usize)
+    }
+
+    /// The zones, ascending, that stand for all: each zone has the same tags in force as one of
+    /// these that isn't behind it.
+    pub fn first_zones(&self, alloc: Global) -> Result<Vec<ZoneId>, NoMemory>
+        ensures { IfOk result (λ v. AreFirsts (seen_of self.now).views.zones (map (λ z. z.0) v.items)) }
+    {
+        Err(NoMemory)
+    }
+
+    /// The zones and routers, zones first and each ascending, that stand for all: each zone and
+    /// each router has the same tags in force as one of these that isn't behind it.
+    pub fn first_places(&self, alloc: Global) -> Result<Vec<ViewAt>, NoMemory>
+        ensures { IfOk result (λ v. AreFirsts (all_views (seen_of self.now).views) (map (place_number (length (seen_of self.now).views.zones)) v.items)) }
+    {
+        Err(NoMemory)
     }
 }

@@ -1,14 +1,15 @@
-//! That what is compiled decides exactly: where no fault and no word is told of a policy, the access lists that are written for it pass an unambiguous packet
+//! That what is compiled decides exactly: where no fault is told of a policy, the access lists that are written for it pass an unambiguous packet
 //! of an allowed walk just if it is permitted or a reply.
 //! The functions here do nothing: each has a law as its contract.
 #![tactic(auto)]
 
-ghost use Rattle.std.specs.Prelude.{◌≡◌, ℕ, ◌<◌, List, [], length, slice_index_or, Ok, IsTrue};
+ghost use Rattle.std.specs.Prelude.{◌≡◌, ℕ, ◌<◌, [], length, slice_index_or, Ok, IsTrue};
 ghost use Rattle.policy_model.specs.Policy.{Policy, router_at, is_managed};
 ghost use Rattle.policy_model.specs.Blocks.{list_at};
 ghost use Rattle.policy_model.specs.Headline.{Meaning, permits_in};
 ghost use Rattle.policy_laws.specs.Routed.{IsWired};
 ghost use Rattle.policy_laws.specs.Shaped.{IsShaped};
+ghost use Rattle.topology.specs.Sound.{IsSound};
 ghost use Rattle.meaning_laws.specs.Tables.{meaning_of};
 ghost use Rattle.policy_outcome.specs.Outcome.{Written, lists_for, written_for, outcome_for};
 ghost use Rattle.policy_outcome.specs.Exact.{DecidesExactly, configs_for};
@@ -21,6 +22,6 @@ pub fn lists_are_written()
 
 /// Where the outcome is not a fault, it is what is written for the policy, and its configurations decide exactly.
 pub fn accepted_policies_decide_exactly()
-    ensures { (sources : List (List ℕ × List ℕ)) (p : Policy) (written : Written) → IsShaped p → IsWired p → outcome_for sources (meaning_of p) ≡ Ok written →
+    ensures { (p : Policy) (written : Written) → IsSound p → IsShaped p → IsWired p → outcome_for (meaning_of p) ≡ Ok written →
         (written ≡ written_for (meaning_of p)) × DecidesExactly p (configs_for (meaning_of p)) }
 {}

@@ -2,6 +2,7 @@ ghost use Rattle.std.specs.Prelude.{◌≡◌, ◌==◌, ◌<◌, Ok, Err, IfOk,
 ghost use Rattle.policy_laws.specs.Shaped.{IsShaped};
 ghost use Rattle.topology.specs.First.{IsRefusalOf};
 ghost use Rattle.topology.specs.View.{policy_of};
+ghost use Rattle.nat_view.specs.Views.{seen_of};
 ghost use Rattle.permit_set.specs.Shown.{permit_of};
 ghost use Rattle.fault_text.specs.Texts.{fault_line};
 ghost use Rattle.device_files.specs.Seen.{file_of};
@@ -71,8 +72,8 @@ fn local(graph: &ZoneGraph, permits: &[Permit]) -> usize
 }
 
 // The counts of what was written.
-fn summarize(topo: Topo<'_>, found: &Findings, made: &DeviceFiles) -> Summary
-    requires found { IsFound topo found.now.graph found.now.tags (map permit_of found.now.permits.items) }
+fn summarize(topo: Topo<'_>, found: &Findings<'_>, made: &DeviceFiles) -> Summary
+    requires found { IsFound topo found.now.graph (seen_of found.now.views).views (map permit_of found.now.permits.items) }
     requires files { map file_of made.now.files ≡ files_for (policy_of topo) (lists_for (meaning_in topo)) }
     requires lines { made.now.lines ≡ line_total (policy_of topo) (lists_for (meaning_in topo)) }
     ensures { counts_of result ≡ counts_for (meaning_in topo.entry) }
@@ -89,12 +90,12 @@ fn summarize(topo: Topo<'_>, found: &Findings, made: &DeviceFiles) -> Summary
     }
 }
 
-/// The device files and the summary of a policy, or its first fault: that of its areas, tags and
-/// services, then what isn't compiled yet, and then that of its walks and lists.
+/// The device files and the summary of a policy, or its first fault: that of its areas, tags, views
+/// and services, and then that of its walks and lists.
 pub fn compile(alloc: Global, topo: Topo<'_>) -> Result<Compiled, Refusal>
     requires shaped { IsShaped (policy_of topo) }
-    ensures done { IfOk result (λ c. outcome_for (pairs_in topo.entry) (meaning_in topo.entry) ≡ Ok (written_of c)) }
-    ensures refused { IfErr result (IsRefusalOf (λ fault. outcome_for (pairs_in topo.entry) (meaning_in topo.entry) ≡ Err (fault_line (pairs_in topo.entry) fault))) }
+    ensures done { IfOk result (λ c. outcome_for (meaning_in topo.entry) ≡ Ok (written_of c)) }
+    ensures refused { IfErr result (IsRefusalOf (λ fault. outcome_for (meaning_in topo.entry) ≡ Err (fault_line (pairs_in topo.entry) fault))) }
 {
     let found = found(alloc, topo)?;
     let scratch = Bump::new(alloc);
@@ -103,7 +104,7 @@ pub fn compile(alloc: Global, topo: Topo<'_>) -> Result<Compiled, Refusal>
         &scratch,
         topo,
         &found.graph,
-        &found.tags,
+        &found.views,
         &found.permits,
     )?;
     let made = device_files(alloc, topo, &lists)?;

@@ -1,28 +1,28 @@
-ghost use Rattle.std.specs.Prelude.{◌≡◌, ◌+◌, ◌<◌, ◌≤◌, ◌++◌, ◌∷◌, [], drop, length, map, None, Ok, Err, IfOk, IfErr, OnOk};
+ghost use Rattle.std.specs.Prelude.{◌≡◌, ◌+◌, ◌<◌, ◌≤◌, ◌++◌, ◌∷◌, [], drop, length, map, Ok, Err, IfOk, IfErr, OnOk};
 ghost use Rattle.policy_model.specs.Policy.{router_at, is_managed};
 ghost use Rattle.policy_laws.specs.Shaped.{IsShaped};
 ghost use Rattle.topology.specs.First.{IsRefusalOf};
 ghost use Rattle.topology.specs.View.{policy_of};
+ghost use Rattle.nat_view.specs.Views.{seen_of};
 ghost use Rattle.permit_set.specs.Shown.{permit_of};
 ghost use Rattle.dev_config.specs.Seen.{lines_of};
 ghost use Rattle.fault_text.specs.Texts.{fault_line};
-ghost use Rattle.policy_outcome.specs.Later.{later_word};
-ghost use Rattle.policy_outcome.specs.Outcome.{after_later, list_for, lists_for, written_for};
+ghost use Rattle.policy_outcome.specs.Outcome.{after_services, list_for, lists_for, written_for};
 ghost use Rattle.policy_outcome.specs.Found.{meaning_in, pairs_in, IsFound};
 ghost use Rattle.policy_lists.specs.Known.{IsViewed};
 ghost use Rattle.policy_lists.specs.Coming.{ArePlacedFrom};
 
 use crate::places::places_of;
 use crate::viewed::Viewed;
-use crate::views::views_of;
 use acl_build::build;
 use bumpalo::Bump;
 use dev_config::List;
+use nat_view::Views;
 use permit_set::{Permit, Placement};
 use spoc_base::{IfId, NoMemory, Refusal};
 use std::alloc::Global;
 use topology::Topo;
-use zone_graph::{TagTable, ZoneGraph};
+use zone_graph::ZoneGraph;
 
 // How many interfaces there are.
 fn iface_count(topo: Topo<'_>) -> u32
@@ -113,21 +113,20 @@ pub fn lists<'s>(
     scratch: &'s Bump,
     topo: Topo<'_>,
     graph: &ZoneGraph,
-    tags: &TagTable,
+    views: &Views<'_>,
     permits: &[Permit],
 ) -> Result<Vec<List<'s>>, Refusal>
-    requires found { IsFound topo graph.now tags.now (map permit_of permits.now) }
-    requires later { later_word (policy_of topo) ≡ None }
+    requires found { IsFound topo graph.now (seen_of views.now).views (map permit_of permits.now) }
+    requires policy { (seen_of views.now).policy ≡ policy_of topo }
     requires shaped { IsShaped (policy_of topo) }
     ensures lists { IfOk result (λ lists. map lines_of lists.items ≡ lists_for (meaning_in topo.entry)) }
-    ensures clear { OnOk result (after_later (pairs_in topo.entry) (meaning_in topo.entry) ≡ Ok (written_for (meaning_in topo.entry))) }
-    ensures refused { IfErr result (IsRefusalOf (λ fault. after_later (pairs_in topo.entry) (meaning_in topo.entry) ≡ Err (fault_line (pairs_in topo.entry) fault))) }
+    ensures clear { OnOk result (after_services (meaning_in topo.entry) ≡ Ok (written_for (meaning_in topo.entry))) }
+    ensures refused { IfErr result (IsRefusalOf (λ fault. after_services (meaning_in topo.entry) ≡ Err (fault_line (pairs_in topo.entry) fault))) }
 {
-    let views = views_of(alloc, topo, graph, tags, permits)?;
     let viewed = Viewed {
         topo,
         graph,
-        views: &views,
+        views,
         permits,
     };
     let places = places_of(alloc, &viewed)?;

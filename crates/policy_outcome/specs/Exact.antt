@@ -1,9 +1,14 @@
 -- What is claimed of each policy that is compiled.
-use Rattle.std.specs.Prelude.{◌≡◌, ℕ, ◌<◌, List, length, map, IsTrue}
-use Rattle.policy_model.specs.Policy.{Policy, router_at, is_managed, managed_routers}
+use Rattle.std.specs.Prelude.{◌≡◌, ℕ, ◌<◌, List, [], ◌∷◌, ◌++◌, length, map, Some, None, option_and_then, IsTrue}
+use Rattle.policy_model.specs.Policy.{Policy, net_at, router_at, is_managed, managed_routers}
+use Rattle.policy_model.specs.Paths.{Crossing}
+use Rattle.policy_model.specs.Tags.{router_view}
+use Rattle.policy_model.specs.Places.{translated_address}
+use Rattle.policy_model.specs.Permits.{Packet}
+use Rattle.policy_model.specs.Routes.{next_hops, lookup, is_static}
 use Rattle.policy_model.specs.Blocks.{list_at}
-use Rattle.policy_model.specs.Passing.{Config, list_in}
-use Rattle.policy_model.specs.Headline.{Meaning, IsMeaning, WalksPass, DevicesPass, TablesSend, permits_in}
+use Rattle.policy_model.specs.Passing.{Config, config_of, list_in}
+use Rattle.policy_model.specs.Headline.{Meaning, IsMeaning, IsUnderWay, WalksPass, DevicesPass, TablesSend, permits_in}
 use Rattle.policy_laws.specs.Routed.{HasClearRoutes, HaveTables}
 use Rattle.policy_outcome.specs.Files.{config_for}
 use Rattle.policy_outcome.specs.Outcome.{lists_for}
@@ -12,19 +17,32 @@ use Rattle.policy_outcome.specs.Outcome.{lists_for}
 abbrev pub configs_for : Meaning → List Config
 configs_for m = map (config_for m.site.policy (lists_for m)) (managed_routers m.site.policy)
 
--- The policy has no fault of routes, and the static routers' tables are what they are with the routes of these configurations. As long as none are written, a
--- policy is such a one where its static routers send no packet past another router.
+-- The policy has no fault of routes, and the static routers' tables are the policy's own with the routes of these configurations. No routes are written
+-- yet; which policies are such ones all the same isn't proved.
 pub record IsRoutedBy (m : Meaning) (configs : List Config) : Type 0 where
   pub clear : HasClearRoutes m.site m.views (permits_in m)
   pub tables : HaveTables m.site m.views (permits_in m) configs
 
+-- Where a walk leaves a static router straight into the destination's network, that is the walk's one next hop there, and the router's table sends an
+-- unambiguous packet to it.
+abbrev pub TablesSendDirect : Meaning → List Config → Type 0
+TablesSendDirect m configs =
+    (x : Packet) (before : List Crossing) (c : Crossing) (rest : List Crossing) → IsUnderWay m x (before ++ c ∷ rest) →
+    let p = m.site.policy in
+    let r = router_at p c.enter in
+    IsTrue (is_static p r) → net_at p c.leave ≡ x.dst.net →
+    (next_hops p x.dst.net c rest ≡ record { out = c.leave; next = None } ∷ [])
+    × (option_and_then (lookup p r (config_of p configs r).routes) (translated_address p (router_view m.views r) x.dst.net x.dst.addr)
+    ≡ Some (record { out = c.leave; gateway = None }))
+
 -- The main theorem: there are the policy's zones, views and areas, and with these the devices of an allowed walk pass an unambiguous packet exactly if it is
--- permitted or a reply, all of them and each by itself. The list at each managed interface is the policy's. Where no router needs a route that isn't written,
--- the static routers' tables send such a packet to the walk's next hop.
+-- permitted or a reply, all of them and each by itself. The list at each managed interface is the policy's. A static router's table sends such a packet to
+-- the walk's next hop: always where that is straight into the destination's network, and at every crossing where no router needs a route that isn't written.
 pub record DecidesExactly (p : Policy) (configs : List Config) : Type 0 where
   pub meaning : Meaning
   pub is_its : IsMeaning p meaning
   pub walks : WalksPass meaning configs
   pub devices : DevicesPass meaning configs
   pub lists : (i : ℕ) → i < length p.ifaces → IsTrue (is_managed p (router_at p i)) → list_in p configs i ≡ list_at meaning.site meaning.views (permits_in meaning) i
+  pub direct : TablesSendDirect meaning configs
   pub tables : IsRoutedBy meaning configs → TablesSend meaning configs

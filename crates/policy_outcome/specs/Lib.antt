@@ -1,4 +1,3 @@
-pub mod Later
 pub mod Files
 pub mod Outcome
 pub mod Exact

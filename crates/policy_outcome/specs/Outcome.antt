@@ -2,7 +2,6 @@
 use Rattle.std.specs.Prelude.{ℕ, Bool, not, ◌&&◌, ◌||◌, ◌==◌, List, [], ◌∷◌, ◌++◌, length, map, filter, Option, Some, None, Result, Ok, Err, if◌then◌else◌, codes}
 use Rattle.std.specs.List.{list_any}
 use Rattle.std.specs.Fmt.{decimal}
-use Rattle.spoc_base.specs.declared.fault.Fault.TheVariants.{Later}
 use Rattle.policy_model.specs.Lists.{is_nothing, pairs_of}
 use Rattle.policy_model.specs.Policy.{Policy, net_of, all_nets, all_ifaces, router_at, is_managed, managed_routers}
 use Rattle.policy_model.specs.Zones.{zone_of, zone_count}
@@ -11,10 +10,9 @@ use Rattle.policy_model.specs.Filters.{Line}
 use Rattle.policy_model.specs.Blocks.{list_at}
 use Rattle.policy_model.specs.FirstFault.{FaultCase}
 use Rattle.policy_model.specs.Headline.{Meaning, permits_in}
-use Rattle.fault_laws.specs.Cases.{first_of, split_case, conflict_case, twice_case, inside_case, managed_case, permits_case, path_case, lines_case}
-use Rattle.fault_text.specs.Texts.{fault_line}
+use Rattle.fault_laws.specs.Cases.{first_of, split_case, conflict_case, twice_case, inside_case, views_case, same_case, managed_case, permits_case, path_case, lines_case}
+use Rattle.shadow_laws.specs.Shadows.{shadow_case}
 use Rattle.fault_text.specs.Cases.{case_line}
-use Rattle.policy_outcome.specs.Later.{later_word}
 use Rattle.policy_outcome.specs.Files.{files_for, line_total}
 
 -- the summary's counts
@@ -67,9 +65,12 @@ abbrev pub unless : {A : Type 0} → Option A → (A → List ℕ) → Result Wr
 unless None line outcome = outcome
 unless (Some fault) line outcome = Err (line fault)
 
--- the first fault of tags, that of services, and that of walks
+-- the first fault of tags, that of views, that of services, and that of walks
 abbrev pub tag_case : Meaning → Option FaultCase
 tag_case m = first_of (conflict_case m ∷ twice_case m ∷ inside_case m ∷ [])
+
+abbrev pub view_case : Meaning → Option FaultCase
+view_case m = first_of (views_case m ∷ same_case m ∷ shadow_case m ∷ [])
 
 abbrev pub service_case : Meaning → Option FaultCase
 service_case m = first_of (managed_case m ∷ permits_case m ∷ [])
@@ -77,21 +78,24 @@ service_case m = first_of (managed_case m ∷ permits_case m ∷ [])
 abbrev pub walk_case : Meaning → Option FaultCase
 walk_case m = first_of (path_case m ∷ lines_case m ∷ [])
 
-module _ (sources : List (List ℕ × List ℕ)) (m : Meaning) where
-  -- after what isn't compiled yet was looked at
-  abbrev pub after_later : Result Written (List ℕ)
-  after_later = unless (walk_case m) (case_line m.site) (Ok (written_for m))
-
+module _ (m : Meaning) where
+  -- the outcome where areas, tags, views and services have no fault
   abbrev pub after_services : Result Written (List ℕ)
-  after_services = unless (later_word m.site.policy) (λ word. fault_line sources (Later word)) after_later
+  after_services = unless (walk_case m) (case_line m.site) (Ok (written_for m))
 
+  -- where areas, tags and views have none
+  abbrev pub after_views : Result Written (List ℕ)
+  after_views = unless (service_case m) (case_line m.site) after_services
+
+  -- where areas and tags have none
   abbrev pub after_tags : Result Written (List ℕ)
-  after_tags = unless (service_case m) (case_line m.site) after_services
+  after_tags = unless (view_case m) (case_line m.site) after_views
 
+  -- where areas have none
   abbrev pub after_areas : Result Written (List ℕ)
   after_areas = unless (tag_case m) (case_line m.site) after_tags
 
-  -- What a policy compiles to that means this: its faults count row by row, and what isn't compiled yet comes directly before those of walks.
+  -- What a policy compiles to that means this: its faults count row by row.
   abbrev pub outcome_for : Result Written (List ℕ)
   outcome_for = unless (split_case m) (case_line m.site) after_areas
 

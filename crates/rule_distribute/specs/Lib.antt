@@ -1,5 +1,4 @@
 pub mod Pairs
-pub mod Apart
 pub mod Given
 pub mod Rows
 pub mod Paths
@@ -7,3 +6,4 @@ pub mod Placed
 pub mod Shown
 pub mod Lacking
 pub mod Distributed
+pub mod Concerned

@@ -1,8 +1,10 @@
 //! What is placed at each interface of a managed router: for each pair of networks on path there,
-//! its permits and those of the way back.
+//! its permits and those of the way back, and where an outer pair's line reaches into it, that all else
+//! between its networks is denied.
 #![tactic(auto)]
 
 mod blocks;
+mod concerned;
 mod joined;
 mod managed;
 mod pairs;

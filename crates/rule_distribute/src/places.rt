@@ -6,7 +6,6 @@ ghost use Rattle.topology.specs.View.{policy_of, sources_of};
 ghost use Rattle.zone_graph.specs.Grouped.{IsGraphOf, HasGroups, row_items};
 ghost use Rattle.nat_view.specs.Views.{seen_of};
 ghost use Rattle.permit_set.specs.Shown.{permit_of};
-ghost use Rattle.rule_distribute.specs.Apart.{AreApart};
 ghost use Rattle.rule_distribute.specs.Distributed.{placed_seen, placed_at, IsClear, TellsWalk};
 ghost use Rattle.rule_distribute.specs.Given.{site_with, ArePermits};
 ghost use Rattle.rule_distribute.specs.Paths.{HaveMarks, path_row};
@@ -72,7 +71,6 @@ fn place_all(
     requires policy { (seen_of views.now).policy ≡ policy_of topo }
     requires zones { length (seen_of views.now).views.zones ≡ length graph.now.nets }
     requires permits { ArePermits (policy_of topo) (map permit_of permits.now) }
-    requires apart { AreApart (site_with (policy_of topo) graph.now) (seen_of views.now).views }
     requires joined { ArePairsOf (site_with (policy_of topo) graph.now) (map permit_of permits.now) (pairs_seen joined.now) }
     requires each { length rows.now ≡ length (policy_of topo).ifaces }
     requires on_path { HasGroups (λ w. w) (row_items rows.now) (path_row (site_with (policy_of topo) graph.now) joined.now.pairs.items (length joined.now.pairs.items)) }
@@ -114,7 +112,6 @@ pub fn distribute(
     requires zones { length (seen_of views.now).views.zones ≡ length graph.now.nets }
     requires permits { ArePermits (policy_of topo) (map permit_of permits.now) }
     requires few { length permits.now < 4294967296 }
-    requires apart { AreApart (site_with (policy_of topo) graph.now) (seen_of views.now).views }
     requires marks { HaveMarks (site_with (policy_of topo) graph.now) (zone_pairs (site_with (policy_of topo) graph.now) (seen_of views.now).views (map permit_of permits.now)) tables.now }
     ensures placed { IfOk result (λ places. map placed_seen places.items ≡ placed_at (site_with (policy_of topo.entry) graph.now) (seen_of views.now).views (map permit_of permits.now)) }
     ensures clear { IfOk result (λ places. IsClear (site_with (policy_of topo.entry) graph.now) (seen_of views.now).views (map permit_of permits.now)) }

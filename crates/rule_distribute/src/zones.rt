@@ -4,7 +4,6 @@ ghost use Rattle.topology.specs.View.{policy_of};
 ghost use Rattle.zone_graph.specs.Grouped.{IsGraphOf};
 ghost use Rattle.nat_view.specs.Views.{seen_of};
 ghost use Rattle.permit_set.specs.Shown.{permit_of};
-ghost use Rattle.rule_distribute.specs.Apart.{AreApart};
 ghost use Rattle.rule_distribute.specs.Given.{site_with, ArePermits};
 ghost use Rattle.rule_distribute.specs.Pairs.{both_ways};
 
@@ -70,8 +69,8 @@ pub fn zone_pairs(
 ) -> Result<Vec<(ZoneId, ZoneId)>, NoMemory>
     requires graph { IsGraphOf (policy_of topo) graph.now }
     requires policy { (seen_of views.now).policy ≡ policy_of topo }
+    requires zones { length (seen_of views.now).views.zones ≡ length graph.now.nets }
     requires permits { ArePermits (policy_of topo) (map permit_of permits.now) }
-    requires apart { AreApart (site_with (policy_of topo) graph.now) (seen_of views.now).views }
     ensures { IfOk result (λ v. map (λ z. (z.0.0, z.1.0)) v.items ≡ pairs_of_zones (site_with (policy_of topo.entry) graph.now) (seen_of views.now).views (map permit_of permits.now)) }
 {
     let mut pairs = joined_zones(alloc, topo, graph, permits)?;

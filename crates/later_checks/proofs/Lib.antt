@@ -1,3 +1,0 @@
-pub mod Parents
-pub mod Tagged
-pub mod Remainder
