@@ -14,8 +14,12 @@ mod top;
 pub use top::run;
 
 #[cfg(test)]
+mod nested;
+#[cfg(test)]
 mod rows;
 #[cfg(test)]
 mod tests;
+#[cfg(test)]
+mod translated;
 #[cfg(test)]
 mod walks;

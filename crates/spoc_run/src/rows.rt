@@ -66,7 +66,12 @@ pub(crate) fn check(
 }
 
 // Compiles a policy of one file, which is refused with this line.
-fn refuse(rt: &impl Abort, alloc: Global, parts: &[&str], line: &str) -> Result<(), NoMemory> {
+pub(crate) fn refuse(
+    rt: &impl Abort,
+    alloc: Global,
+    parts: &[&str],
+    line: &str,
+) -> Result<(), NoMemory> {
     let wanted = Wanted {
         status: 1,
         text: line,
@@ -356,8 +361,6 @@ service:s1 = {
 }
 ";
 
-const NESTED: &str = "network:n3 = { ip = 10.1.2.128/25; }\n";
-
 #[test]
 fn areas_services_and_walks_are_refused(rt: HostRuntime) -> Result<(), Fail> {
     let alloc = rt.alloc();
@@ -374,20 +377,8 @@ fn areas_services_and_walks_are_refused(rt: HostRuntime) -> Result<(), Fail> {
         "fault ManagedEnd service:s1 interface:r1.n2\n",
     )?;
     refuse_with(&rt, alloc, NO_PATH, "fault NoPath network:n1 network:n2\n")?;
-    refuse_with(&rt, alloc, NESTED, "fault Later nested\n")?;
     Ok(())
 }
-
-const TRANSLATED: &str = "\
-network:n1 = { ip = 10.1.1.0/24; nat:x = { ip = 192.0.2.0/24; } }
-network:n2 = { ip = 10.1.2.0/24; }
-router:r1 = {
- managed;
- model = IOS;
- interface:n1 = { ip = 10.1.1.1; hardware = E1; }
- interface:n2 = { ip = 10.1.2.1; hardware = E2; bind_nat = x; }
-}
-";
 
 const TWICE: &str = "\
 network:n1 = { ip = 10.1.1.0/24; nat:x = { ip = 192.0.2.0/24; } nat:y = { ip = 198.51.100.0/24; } }
@@ -431,7 +422,6 @@ router:r2 = {
 #[test]
 fn translations_are_refused(rt: HostRuntime) -> Result<(), Fail> {
     let alloc = rt.alloc();
-    refuse(&rt, alloc, &[TRANSLATED], "fault Later nat\n")?;
     refuse(
         &rt,
         alloc,
