@@ -1,0 +1,4 @@
+pub mod Own
+pub mod Lying
+pub mod OnWalks
+pub mod Accepted
