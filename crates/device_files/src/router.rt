@@ -95,7 +95,7 @@ pub(crate) fn lists_of<'s>(
     Ok(found)
 }
 
-/// How many lines some lists have.
+/// How many lines some lists have. A count past 2^64 - 1 is answered as want of memory.
 pub(crate) fn count(lists: &[List<'_>]) -> Result<u64, NoMemory>
     ensures { IfOk result (λ total. total ≡ sum_by length (map lines_of lists.now)) }
 {

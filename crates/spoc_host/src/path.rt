@@ -57,7 +57,7 @@ fn is_folder<R: Files>(rt: &R, path: &str) -> bool {
 }
 
 /// Whether each `/` of a path from `first` on stands behind a folder, and behind no link.
-pub fn is_below_folders<R: Files>(rt: &R, path: &str, first: usize) -> bool {
+pub(crate) fn is_below_folders<R: Files>(rt: &R, path: &str, first: usize) -> bool {
     for at in first..path.len() {
         if path.as_bytes()[at] == b'/' && !is_folder(rt, path.get(..at).unwrap_or_default()) {
             return false;
