@@ -1,3 +1,5 @@
-pub mod Growing
-pub mod Parted
 pub mod Enclosed
+pub mod Growing
+pub mod Marking
+pub mod Parted
+pub mod Searching

@@ -5,6 +5,7 @@
 
 mod closing;
 mod inside;
+mod keys;
 mod laws;
 mod lines;
 mod pairs;

@@ -31,16 +31,16 @@ declared_without_fault sources e =
 
 -- the outcome of sources without such a fault
 pub past_texts : (sources : List Source) → fault_of_sources (texts_of sources) ≡ None →
-    outcome_of (map pair_of sources) ≡ outcome_for (map pair_of sources) (meaning_of (policy_in (map pair_of sources)))
+    outcome_of (map pair_of sources) ≡ outcome_for (meaning_of (policy_in (map pair_of sources)))
 past_texts sources e =
     let pairs = map pair_of sources in
-    ap (λ (o : Option Fault). unless o (fault_line pairs) (outcome_for pairs (meaning_of (policy_in pairs)))) (ap fault_of_sources (sym (same_texts sources)) ∙ e)
+    ap (λ (o : Option Fault). unless o (fault_line pairs) (outcome_for (meaning_of (policy_in pairs)))) (ap fault_of_sources (sym (same_texts sources)) ∙ e)
 
 -- and that of sources with one
 pub at_fault : (sources : List Source) (fault : Fault) → fault_of_sources (texts_of sources) ≡ Some fault → outcome_of (map pair_of sources) ≡ Err (fault_line (map pair_of sources) fault)
 at_fault sources fault e =
     let pairs = map pair_of sources in
-    ap (λ (o : Option Fault). unless o (fault_line pairs) (outcome_for pairs (meaning_of (policy_in pairs)))) (ap fault_of_sources (sym (same_texts sources)) ∙ e)
+    ap (λ (o : Option Fault). unless o (fault_line pairs) (outcome_for (meaning_of (policy_in pairs)))) (ap fault_of_sources (sym (same_texts sources)) ∙ e)
 
 pub refused_texts : (sources : List Source) (r : Refusal) → IsRefusalOf (λ fault. fault_of_sources (texts_of sources) ≡ Some fault) r →
     IsRefusalOf (λ fault. outcome_of (map pair_of sources) ≡ Err (fault_line (map pair_of sources) fault)) r

@@ -5,7 +5,6 @@ use Rattle.std.specs.Str.{bytes_eq}
 use Rattle.std.specs.List.{IsDistinct}
 use Rattle.policy_model.specs.Policy.{Policy}
 use Rattle.policy_model.specs.Filters.{Line}
-use Rattle.policy_model.specs.Headline.{Meaning}
 use Rattle.policy_laws.specs.Shaped.{IsShaped}
 use Rattle.policy_laws.specs.Routed.{IsWired}
 use Rattle.topology.specs.First.{IsRefusalOf}
@@ -69,46 +68,44 @@ module _ (topo : Topo) (sources : List Source) (policy : policy_of topo ≡ poli
   abbrev pairs : List (List ℕ × List ℕ)
   pairs = map pair_of sources
 
-  same_meant : outcome_for pairs (meaning_of (policy_in pairs)) ≡ outcome_for (pairs_in topo) (meaning_in topo)
-  same_meant =
-      sym (ap (λ (told_pairs : List (List ℕ × List ℕ)). outcome_for told_pairs (meaning_in topo)) (same_pairs topo sources told)
-      ∙ ap (λ (m : Meaning). outcome_for pairs m) (same_meaning topo (policy_in pairs) policy))
+  same_meant : outcome_for (meaning_of (policy_in pairs)) ≡ outcome_for (meaning_in topo)
+  same_meant = sym (ap outcome_for (same_meaning topo (policy_in pairs) policy))
 
-  meant_by : (o : Result Written (List ℕ)) → outcome_for (pairs_in topo) (meaning_in topo) ≡ o → outcome_for pairs (meaning_of (policy_in pairs)) ≡ o
+  meant_by : (o : Result Written (List ℕ)) → outcome_for (meaning_in topo) ≡ o → outcome_for (meaning_of (policy_in pairs)) ≡ o
   meant_by o e = same_meant ∙ e
 
-  outcome_by : (o : Result Written (List ℕ)) → outcome_for (pairs_in topo) (meaning_in topo) ≡ o → outcome_of pairs ≡ o
+  outcome_by : (o : Result Written (List ℕ)) → outcome_for (meaning_in topo) ≡ o → outcome_of pairs ≡ o
   outcome_by o e = past_texts sources none ∙ meant_by o e
 
-  pub done : (r : Result Compiled Refusal) → IfOk r (λ made. outcome_for (pairs_in topo) (meaning_in topo) ≡ Ok (written_of made)) → IfOk r (λ made. outcome_of pairs ≡ Ok (written_of made))
+  pub done : (r : Result Compiled Refusal) → IfOk r (λ made. outcome_for (meaning_in topo) ≡ Ok (written_of made)) → IfOk r (λ made. outcome_of pairs ≡ Ok (written_of made))
   done (Ok made) e = outcome_by (Ok (written_of made)) e
   done (Err refusal) e = tt
 
-  one_refused : (r : Refusal) → IsRefusalOf (λ fault. outcome_for (pairs_in topo) (meaning_in topo) ≡ Err (fault_line (pairs_in topo) fault)) r →
+  one_refused : (r : Refusal) → IsRefusalOf (λ fault. outcome_for (meaning_in topo) ≡ Err (fault_line (pairs_in topo) fault)) r →
       IsRefusalOf (λ fault. outcome_of pairs ≡ Err (fault_line pairs fault)) r
   one_refused (refusal.Policy fault) e =
       outcome_by (Err (fault_line (pairs_in topo) fault)) e ∙ ap (λ (told_pairs : List (List ℕ × List ℕ)). Err (fault_line told_pairs fault)) (same_pairs topo sources told)
   one_refused refusal.Memory e = tt
 
-  pub refused : (r : Result Compiled Refusal) → IfErr r (IsRefusalOf (λ fault. outcome_for (pairs_in topo) (meaning_in topo) ≡ Err (fault_line (pairs_in topo) fault))) →
+  pub refused : (r : Result Compiled Refusal) → IfErr r (IsRefusalOf (λ fault. outcome_for (meaning_in topo) ≡ Err (fault_line (pairs_in topo) fault))) →
       IfErr r (IsRefusalOf (λ fault. outcome_of pairs ≡ Err (fault_line pairs fault)))
   refused (Ok made) e = tt
   refused (Err refusal) e = one_refused refusal e
 
   -- what is written is exact, and its files have distinct names
   module _ (shape : IsShaped (policy_in pairs) × IsWired (policy_in pairs))
-      (law : (sources : List (List ℕ × List ℕ)) (p : Policy) (written : Written) → IsShaped p → IsWired p → outcome_for sources (meaning_of p) ≡ Ok written →
+      (law : (p : Policy) (written : Written) → IsSound p → IsShaped p → IsWired p → outcome_for (meaning_of p) ≡ Ok written →
       (written ≡ written_for (meaning_of p)) × DecidesExactly p (configs_for (meaning_of p))) where
-    decided : (made : Compiled) → outcome_for (pairs_in topo) (meaning_in topo) ≡ Ok (written_of made) →
+    decided : (made : Compiled) → outcome_for (meaning_in topo) ≡ Ok (written_of made) →
         (written_of made ≡ written_for (meaning_of (policy_in pairs))) × DecidesExactly (policy_in pairs) (configs_for (meaning_of (policy_in pairs)))
-    decided made e = law pairs (policy_in pairs) (written_of made) shape.0 shape.1 (meant_by (Ok (written_of made)) e)
+    decided made e = law (policy_in pairs) (written_of made) (subst IsSound policy topo.kept.sound) shape.0 shape.1 (meant_by (Ok (written_of made)) e)
 
-    pub exact : (r : Result Compiled Refusal) → IfOk r (λ made. outcome_for (pairs_in topo) (meaning_in topo) ≡ Ok (written_of made)) → IfOk r (λ made. AreExact pairs (written_of made))
+    pub exact : (r : Result Compiled Refusal) → IfOk r (λ made. outcome_for (meaning_in topo) ≡ Ok (written_of made)) → IfOk r (λ made. AreExact pairs (written_of made))
     exact (Ok made) e = exact_of pairs (written_of made) (decided made e)
     exact (Err refusal) e = tt
 
     pub named : ((decls : List DeclText) (lists : List (List Line)) → fault_of decls ≡ None → IsDistinct bytes_eq (map (λ file. file.0) (files_for (policy_said decls) lists))) →
-        fault_of (declared (source_texts pairs)) ≡ None → (r : Result Compiled Refusal) → IfOk r (λ made. outcome_for (pairs_in topo) (meaning_in topo) ≡ Ok (written_of made)) →
+        fault_of (declared (source_texts pairs)) ≡ None → (r : Result Compiled Refusal) → IfOk r (λ made. outcome_for (meaning_in topo) ≡ Ok (written_of made)) →
         IfOk r (λ made. IsDistinct bytes_eq (file_names (written_of made)))
     named names clear (Ok made) e = names_of pairs (written_of made) names clear (decided made e).0
     named names clear (Err refusal) e = tt

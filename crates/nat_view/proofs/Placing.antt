@@ -75,33 +75,33 @@ rows_apart p wanted tables places k placed fits j lt =
 
 -- ---- places by number
 
-abbrev number_of : Views → ViewPlace → ℕ
+abbrev pub number_of : Views → ViewPlace → ℕ
 number_of v (AtZone z) = z
 number_of v (AtRouter r) = length v.zones + r
 
-row_of_place : (v : Views) (at : ViewPlace) → IsTrue (has_view v at) → slice_index_or (all_views v) (number_of v at) [] ≡ view_at v at
+pub row_of_place : (v : Views) (at : ViewPlace) → IsTrue (has_view v at) → slice_index_or (all_views v) (number_of v at) [] ≡ view_at v at
 row_of_place v (AtZone z) h = get_or_append_left v.zones v.routers [] z (ltb-true z (length v.zones) h)
 row_of_place v (AtRouter r) h =
     get_or-append_right v.zones v.routers (length v.zones) (length v.zones + r) [] refl (omega arith) ∙ ap (λ i. slice_index_or v.routers i []) (let e : (length v.zones + r) - length v.zones ≡ r = omega arith in e)
 
-number_below : (v : Views) (at : ViewPlace) → IsTrue (has_view v at) → number_of v at < length (all_views v)
+pub number_below : (v : Views) (at : ViewPlace) → IsTrue (has_view v at) → number_of v at < length (all_views v)
 number_below v (AtZone z) h = let lt = ltb-true z (length v.zones) h in let n = length-append v.zones v.routers in omega (arith, lt, n)
 number_below v (AtRouter r) h = let lt = ltb-true r (length v.routers) h in let n = length-append v.zones v.routers in omega (arith, lt, n)
 
 less_of : (a b : ℕ) → (nat_lt a b || ((a == b) && false)) ≡ true → a < b
 less_of a b h = ⊎_elim (λ e. ltb-true a b e) (λ e. absurd (false≢true (and_parts (a == b) false e).1)) (or_cases (nat_lt a b) ((a == b) && false) h)
 
-lower_number : (v : Views) (one other : ViewPlace) → IsTrue (has_view v one) → IsTrue (is_lower (place_order one) (place_order other)) → number_of v one < number_of v other
+pub lower_number : (v : Views) (one other : ViewPlace) → IsTrue (has_view v one) → IsTrue (is_lower (place_order one) (place_order other)) → number_of v one < number_of v other
 lower_number v (AtZone z) (AtZone y) h lower = less_of z y lower
 lower_number v (AtZone z) (AtRouter r) h lower = let lt = ltb-true z (length v.zones) h in omega (arith, lt)
 lower_number v (AtRouter r) (AtZone y) h lower = absurd (false≢true lower)
 lower_number v (AtRouter r) (AtRouter s) h lower = let lt = less_of r s lower in omega (arith, lt)
 
-record IsNamed (v : Views) (k : ℕ) (at : ViewPlace) : Type 0 where
-  number : number_of v at ≡ k
-  viewed : IsTrue (has_view v at)
+pub record IsNamed (v : Views) (k : ℕ) (at : ViewPlace) : Type 0 where
+  pub number : number_of v at ≡ k
+  pub viewed : IsTrue (has_view v at)
 
-named : (v : Views) (k : ℕ) → k < length (all_views v) → IsNamed v k (place_at (length v.zones) k)
+pub named : (v : Views) (k : ℕ) → k < length (all_views v) → IsNamed v k (place_at (length v.zones) k)
 named v k below = go (nat_lt k (length v.zones)) refl
   where
     go : (b : Bool) → nat_lt k (length v.zones) ≡ b → IsNamed v k (cond b (AtZone k) (AtRouter (k - length v.zones)))

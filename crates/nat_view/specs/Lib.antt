@@ -6,3 +6,4 @@ pub mod Sights
 pub mod Fails
 pub mod Views
 pub mod Firsts
+pub mod Met

@@ -1,5 +1,5 @@
 -- Which table each zone and each router has. All zones come before all routers.
-use Rattle.std.specs.Prelude.{◌≡◌, ℕ, ◌-◌, ◌<◌, ◌≤◌, List, [], length, map, take, drop, slice_index_or, nat_lt, if◌then◌else◌}
+use Rattle.std.specs.Prelude.{◌≡◌, ℕ, ◌+◌, ◌-◌, ◌<◌, ◌≤◌, List, [], length, map, take, drop, slice_index_or, nat_lt, if◌then◌else◌}
 use Rattle.std.specs.List.{All}
 use Rattle.policy_model.specs.Policy.{Policy}
 use Rattle.policy_model.specs.Tags.{Views}
@@ -32,6 +32,12 @@ pub record ArePlaced (p : Policy) (wanted : List (List ℕ)) (tables : List Tabl
 pub record AreTables (p : Policy) (tables : List Table) (places : List ℕ) : Type 0 where
   pub tables_are : All (IsTableOf p) tables
   pub below : All (λ i. i < length tables) places
+
+-- The zones come first among the places, and both zones and routers have numbers.
+pub record AreFew (zones count : ℕ) : Type 0 where
+  pub first : zones ≤ count
+  pub routers : count ≤ zones + 65535
+  pub numbered : zones < 4294967296
 
 -- The tables that were there stay, and one of them all has the tags.
 pub record HasTable (p : Policy) (tags : List ℕ) (old new : List Table) (k : ℕ) : Type 0 where

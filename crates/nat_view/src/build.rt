@@ -78,8 +78,8 @@ fn row_at(tags: &TagTable, zones: u32, k: usize) -> &[TagId]
     }
 }
 
-// The name of the k-th place.
-fn name_of(zones: u32, k: usize) -> ViewAt
+/// The name of the k-th place.
+pub(crate) fn name_of(zones: u32, k: usize) -> ViewAt
     requires { k ≤ zones + 65535 }
     ensures { place_seen result ≡ place_at zones k }
 {

@@ -4,6 +4,7 @@
 
 mod build;
 mod fail;
+mod firsts;
 mod place;
 mod table;
 mod view;

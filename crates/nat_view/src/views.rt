@@ -1,8 +1,11 @@
 ghost use Rattle.topology.specs.View.{policy_of};
-ghost use Rattle.nat_view.specs.Places.{AreTables};
+ghost use Rattle.std.specs.Prelude.{length};
+ghost use Rattle.nat_view.specs.Places.{AreTables, AreFew};
 ghost use Rattle.std.proofs.Props.{props};
 
+use crate::build::name_of;
 use crate::fail::ViewAt;
+use crate::firsts::first_places;
 use crate::table::Table;
 use crate::view::View;
 use spoc_base::{NoMemory, RouterId, ZoneId};
@@ -17,13 +20,16 @@ pub struct Views<'a> {
     pub(crate) places: Vec<usize>,
     pub(crate) zones: usize,
     ghost kept: { AreTables (policy_of topo) tables.items places.items } by { Prim.hlevel props },
+    ghost few: { AreFew zones (length places.items) } by { Prim.hlevel props },
 }
 
 impl<'a> Views<'a> {
-    ghost use Rattle.std.specs.Prelude.{◌≡◌, ◌<◌, length, map, IfOk};
+    ghost use Rattle.std.specs.Prelude.{◌≡◌, ◌<◌, length, map, IfOk, IsTrue};
     ghost use Rattle.policy_model.specs.Faults.{all_views};
     ghost use Rattle.nat_view.specs.Firsts.{AreFirsts};
-    ghost use Rattle.nat_view.specs.Fails.{place_number};
+    ghost use Rattle.nat_view.specs.Fails.{place_seen, place_number};
+    ghost use Rattle.nat_view.specs.Seen.{has_view};
+    ghost use Rattle.std.specs.List.{All};
     ghost use Rattle.std.specs.Prelude.{slice_index_or, []};
     ghost use Rattle.policy_model.specs.Tags.{zone_view, router_view};
     ghost use Rattle.topology.specs.View.{policy_of};
@@ -60,14 +66,25 @@ impl<'a> Views<'a> {
     pub fn first_zones(&self, alloc: Global) -> Result<Vec<ZoneId>, NoMemory>
         ensures { IfOk result (λ v. AreFirsts (seen_of self.now).views.zones (map (λ z. z.0) v.items)) }
     {
-        Err(NoMemory)
+        let listed = first_places(alloc, self.tables.len(), &self.places[..self.zones])?;
+        let mut zones = Vec::new(alloc);
+        for k in &listed {
+            zones.push(ZoneId(*k as u32))?;
+        }
+        Ok(zones)
     }
 
     /// The zones and routers, zones first and each ascending, that stand for all: each zone and
     /// each router has the same tags in force as one of these that isn't behind it.
     pub fn first_places(&self, alloc: Global) -> Result<Vec<ViewAt>, NoMemory>
-        ensures { IfOk result (λ v. AreFirsts (all_views (seen_of self.now).views) (map (place_number (length (seen_of self.now).views.zones)) v.items)) }
+        ensures firsts { IfOk result (λ v. AreFirsts (all_views (seen_of self.now).views) (map (place_number (length (seen_of self.now).views.zones)) v.items)) }
+        ensures viewed { IfOk result (λ v. All (λ at. IsTrue (has_view (seen_of self.now).views (place_seen at))) v.items) }
     {
-        Err(NoMemory)
+        let listed = first_places(alloc, self.tables.len(), &self.places)?;
+        let mut places = Vec::new(alloc);
+        for k in &listed {
+            places.push(name_of(self.zones as u32, *k))?;
+        }
+        Ok(places)
     }
 }

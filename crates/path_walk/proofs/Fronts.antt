@@ -59,7 +59,7 @@ distinct_front (x ∷ xs) ys h =
     let a = and_parts (not (has (xs ++ ys) x)) (are_distinct (xs ++ ys)) h in
     and_from (not (has xs x)) (are_distinct xs) (not_back (has xs x) (has (xs ++ ys) x) (has_front xs ys x) a.0) (distinct_front xs ys a.1)
 
-distinct_apart : (xs ys : List ℕ) (z : ℕ) → are_distinct (xs ++ ys) ≡ true → has xs z ≡ true → has ys z ≡ true → ⊥
+pub distinct_apart : (xs ys : List ℕ) (z : ℕ) → are_distinct (xs ++ ys) ≡ true → has xs z ≡ true → has ys z ≡ true → ⊥
 distinct_apart [] ys z h front back = false≢true front
 distinct_apart (x ∷ xs) ys z h front back =
     let a = and_parts (not (has (xs ++ ys) x)) (are_distinct (xs ++ ys)) h in
@@ -95,7 +95,7 @@ pub leads_to_end : (s : Site) (from to : ℕ) (path : List Crossing) → leads (
 leads_to_end s from to [] h = eqb-true from to h
 leads_to_end s from to (c ∷ path) h = leads_to_end s (zone_at s c.leave) to path (and_parts (zone_at s c.enter == from) (leads (zone_at s) (zone_at s c.leave) path to) h).1
 
-leads_parts : (s : Site) (from to : ℕ) (path more : List Crossing) → leads (zone_at s) from (path ++ more) to ≡ true →
+pub leads_parts : (s : Site) (from to : ℕ) (path more : List Crossing) → leads (zone_at s) from (path ++ more) to ≡ true →
     (leads (zone_at s) from path (end_of s from path) ≡ true) × (leads (zone_at s) (end_of s from path) more to ≡ true)
 leads_parts s from to [] more h = (eq-eqb from from refl, h)
 leads_parts s from to (c ∷ path) more h =

@@ -3,6 +3,8 @@ mod Standing
 mod Bridges
 mod Fronts
 mod Going
+mod Nowhere
+mod Shutting
 mod Marked
 mod Marking
 mod Prefixes

@@ -12,6 +12,7 @@ use Rattle.policy_model.specs.Zones.{Site, zone_at}
 use Rattle.policy_model.specs.Walks.{all_crossings}
 use Rattle.path_walk.specs.Search.{Branch, AreOpen, branched, branches_of, to_come, end_of, may_begin, goes_on, walks_on, most_of}
 use Rattle.path_walk.specs.Next.{IsNext}
+use Rattle.path_walk.specs.Shut.{LeadsNowhere}
 use Rattle.path_walk.proofs.Fronts.{end_more, goes_on_is}
 use Rattle.path_walk.proofs.Tree.{length_within, arrived, onward_by_doors}
 
@@ -25,6 +26,10 @@ size x (suc n) = 1 + x * size x n
 abbrev pub weight : ℕ → ℕ → List Branch → ℕ
 weight m x [] = 0
 weight m x (b ∷ branches) = size x (m - b.depth) + weight m x branches
+
+some_size : (x n : ℕ) → 0 < size x n
+some_size x zero = omega arith
+some_size x (suc n) = omega arith
 
 weight_more : (m x k : ℕ) (crossings : List Crossing) (branches : List Branch) →
     weight m x (map (λ c. record { depth = k; crossing = c }) crossings ++ branches) ≡ length crossings * size x (m - k) + weight m x branches
@@ -179,3 +184,23 @@ pub step_on : (s : Site) (from to : ℕ) (path new : List Crossing) (b : Branch)
 step_on s from to path new b branches new_open h e t same =
     subst (λ q. GoesOnBy s from to path (b ∷ branches) q new_open) (sym e)
     (subst (λ l. GoesOnBy s from to path (b ∷ branches) (branched path b) l) (sym (same ∙ ap (λ (q : List Crossing). branches_of s from q ++ branches) e)) (elsewhere s from to path b branches h t))
+
+-- a branch that leads nowhere
+pub step_nowhere : (s : Site) (from to : ℕ) (path new : List Crossing) (b : Branch) (branches new_open : List Branch) → AreOpen s from path (length path) (b ∷ branches) →
+    new ≡ branched path b → LeadsNowhere s from to new → new_open ≡ branches → GoesOnBy s from to path (b ∷ branches) new new_open
+step_nowhere s from to path new b branches new_open h e none same =
+    subst (λ q. GoesOnBy s from to path (b ∷ branches) q new_open) (sym e)
+    (subst (λ l. GoesOnBy s from to path (b ∷ branches) (branched path b) l) (sym same) (nowhere_by (subst (λ q. LeadsNowhere s from to q) e none)))
+  where
+    nowhere_by : LeadsNowhere s from to (branched path b) → GoesOnBy s from to path (b ∷ branches) (branched path b) branches
+    nowhere_by none =
+        let q = branched path b in
+        let x = length (all_crossings s) in
+        let m = most_of s in
+        let some : 0 < size x (m - b.depth) = some_size x (m - b.depth) in
+        record {
+          kept = wider s from q b.depth (length q) branches (omega (arith, branched_length path b h.0)) (kept_open s from path b.depth b.crossing b.depth branches h.0 (omega arith) h.2);
+          walks = ap (λ l. l ++ to_come s from to path branches) (none (m - (b.depth + 1)))
+              ∙ sym (same_to_come s from to path b.depth b.crossing b.depth branches h.0 (omega arith) h.2);
+          less = omega (arith, some);
+        }

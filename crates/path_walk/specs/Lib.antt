@@ -3,4 +3,5 @@ pub mod Next
 pub mod Pairs
 pub mod Search
 pub mod Seen
+pub mod Shut
 pub mod Stack

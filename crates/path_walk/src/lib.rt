@@ -8,6 +8,7 @@ mod lookup;
 pub mod marks;
 mod onward;
 mod search;
+mod shut;
 mod step;
 
 pub use begun::{begins, extends};

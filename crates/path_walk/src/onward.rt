@@ -52,7 +52,13 @@ fn meets_zone(topo: Topo<'_>, graph: &ZoneGraph, from: ZoneId, path: &[Step], zo
 }
 
 /// Whether a path passes a zone, the first one included.
-fn passes_zone(topo: Topo<'_>, graph: &ZoneGraph, from: ZoneId, path: &[Step], zone: ZoneId) -> bool
+pub(crate) fn passes_zone(
+    topo: Topo<'_>,
+    graph: &ZoneGraph,
+    from: ZoneId,
+    path: &[Step],
+    zone: ZoneId,
+) -> bool
     requires { IsGraphOf (policy_of topo) graph.now }
     ensures { result ≡ has (places_on (zone_at (site_of (policy_of topo.entry) graph.now)) from.0 (path_seen path.now)) zone.0 }
 {
@@ -72,7 +78,7 @@ fn enters_router(topo: Topo<'_>, path: &[Step], router: RouterId) -> bool
 }
 
 /// Whether a path crosses a router.
-fn passes_router(topo: Topo<'_>, path: &[Step], router: RouterId) -> bool
+pub(crate) fn passes_router(topo: Topo<'_>, path: &[Step], router: RouterId) -> bool
     ensures { result ≡ has (routers_on (policy_of topo.entry) (path_seen path.now)) router.0 }
 {
     enters_router(topo, path, router)

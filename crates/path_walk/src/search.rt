@@ -6,9 +6,11 @@ ghost use Rattle.path_walk.specs.Seen.{site_of, path_seen, step_seen, crossing_s
 ghost use Rattle.path_walk.specs.Search.{goes_on, branched, branches_of, branches_at, AreOpen};
 ghost use Rattle.path_walk.specs.Stack.{branch_seen, open_seen};
 ghost use Rattle.path_walk.specs.Next.{IsNext};
+ghost use Rattle.path_walk.specs.Shut.{AreOpened, AreLeft};
 
 use crate::lookup::zone_at;
 use crate::onward::{add_at, goes_on, onward};
+use crate::shut::leads_nowhere;
 use crate::step::Step;
 use smallvec::SmallVec;
 use spoc_base::{IfId, NoMemory, Row, ZoneId};
@@ -160,8 +162,31 @@ impl Search {
         self.open_all(crossings)
     }
 
+    /// Opens the branches by which the path may go on to a zone: none where marks show that it leads
+    /// nowhere. They are asked only where there are branches.
+    fn expand_towards(
+        &mut self,
+        alloc: Global,
+        topo: Topo<'_>,
+        graph: &ZoneGraph,
+        from: ZoneId,
+        to: ZoneId,
+    ) -> Result<(), NoMemory>
+        requires { IsGraphOf (policy_of topo) graph.now }
+        ensures path { self.new.path.items ≡ self.old.path.items }
+        ensures branches { OnOk result (AreOpened (site_of (policy_of topo.entry) graph.now) from.0 to.0 (path_seen self.old.path.items) (open_seen self.old.open.items) (open_seen self.new.open.items)) }
+    {
+        let crossings = onward(alloc, topo, graph, from, self.path.as_slice())?;
+        if !crossings.is_empty()
+            && leads_nowhere(alloc, topo, graph, from, self.path.as_slice(), to)?
+        {
+            return Ok(());
+        }
+        self.open_all(crossings)
+    }
+
     /// Follows a branch, and says whether it leads to the zone. If it doesn't, opens the branches
-    /// by which the path goes on.
+    /// by which the path goes on, unless it leads nowhere.
     fn step(
         &mut self,
         alloc: Global,
@@ -174,14 +199,13 @@ impl Search {
         requires { IsGraphOf (policy_of topo) graph.now }
         ensures path { OnOk result (path_seen self.new.path.items ≡ branched (path_seen self.old.path.items) (branch_seen branch)) }
         ensures there { IfOk result (λ there. there ≡ (zone_at (site_of (policy_of topo.entry) graph.now) branch.crossing.leave.0 == to.0)) }
-        ensures branches { IfOk result (λ there. open_seen self.new.open.items ≡ (if there then open_seen self.old.open.items
-            else branches_of (site_of (policy_of topo.entry) graph.now) from.0 (path_seen self.new.path.items) ++ open_seen self.old.open.items)) }
+        ensures branches { IfOk result (λ there. AreLeft (site_of (policy_of topo.entry) graph.now) from.0 to.0 there (path_seen self.new.path.items) (open_seen self.old.open.items) (open_seen self.new.open.items)) }
     {
         self.follow(branch)?;
         if zone_at(topo, graph, branch.crossing.leave) == to {
             return Ok(true);
         }
-        self.expand(alloc, topo, graph, from)?;
+        self.expand_towards(alloc, topo, graph, from, to)?;
         Ok(false)
     }
 

@@ -1,5 +1,5 @@
-pub mod Remainder
 pub mod Ends
+pub mod Revealed
 pub mod Premises
 pub mod Marks
 pub mod Refusals

@@ -1,28 +1,27 @@
--- The rows of the pairs that permits join, and what is known of the pairs.
+-- The rows of the pairs that are kept, and what is known of the pairs.
 use Rattle.std.proofs.Common.{◌≡◌, ℕ, zero, suc, ◌<◌, Bool, true, false, List, [], ◌∷◌, length, map, refl, sym, ap, subst, ◌∙◌, arith, slice_index_or}
 use Rattle.std.specs.Prelude.{◌==◌, ◌&&◌, not, filter}
-use Rattle.std.specs.List.{AllPairs, Contains, list_any}
+use Rattle.std.specs.List.{All, AllPairs, Contains, list_any}
 use Rattle.std.proofs.lemmas.Bool.{and_parts, not-true}
 use Rattle.std.proofs.lemmas.List.{get_or_default}
-use Rattle.policy_model.specs.Lists.{pairs_of}
+use Rattle.policy_model.specs.Lists.{numbers_below, pairs_of}
 use Rattle.policy_model.specs.Policy.{all_nets}
 use Rattle.policy_model.specs.Zones.{Site, IsSite, zone_of, zone_count}
 use Rattle.policy_model.specs.Tags.{Views}
 use Rattle.policy_model.specs.Permits.{Permit}
-use Rattle.policy_model.specs.Blocks.{is_joined, is_joined_pair, is_concerned, all_pairs, zone_pairs}
+use Rattle.policy_model.specs.Blocks.{permit_at, is_concerned, all_pairs, zone_pairs}
 use Rattle.policy_model.proofs.AllWalks.{IsIn}
 use Rattle.list_laws.proofs.Members.{from_filter}
 use Rattle.policy_laws.proofs.PermitLines.{from_pairs}
 use Rattle.zone_graph.specs.Grouped.{HasGroups}
-use Rattle.rule_distribute.specs.Apart.{AreApart}
-use Rattle.rule_distribute.specs.Given.{ArePermits}
+use Rattle.rule_distribute.specs.Concerned.{is_concerned_pair, concerned_pairs}
 use Rattle.rule_distribute.specs.Pairs.{IsBefore}
 use Rattle.rule_distribute.specs.Paths.{AreNamed}
-use Rattle.rule_distribute.specs.Placed.{Pairs, row_at, HaveRows, ArePairsOf}
-use Rattle.rule_distribute.specs.Rows.{pair_at, row_below}
+use Rattle.rule_distribute.specs.Placed.{Pairs, row_at, HaveRows, AreLess, ArePairsOf}
+use Rattle.rule_distribute.specs.Rows.{pair_at, belongs, row_below}
 use Rattle.rule_distribute.proofs.Rising.{Rises, contains_in, in_contains}
 use Rattle.rule_distribute.proofs.Tuples.{some_rise}
-use Rattle.rule_distribute.proofs.ZonePairs.{below_count, joined_listed}
+use Rattle.rule_distribute.proofs.Concerns.{below_count, concerned_listed}
 
 map_self : (xs : List ℕ) → map (λ k. k) xs ≡ xs
 map_self [] = refl
@@ -41,12 +40,12 @@ places_rise R (x ∷ xs) r zero (suc j) d lt below =
     r.0 (slice_index_or xs j d) (contains_in xs (slice_index_or xs j d) (j, h, get_or_default xs j (slice_index_or xs j d) d h))
 places_rise R (x ∷ xs) r (suc i) (suc j) d lt below = places_rise R xs r.1 i j d (omega (arith, lt)) (omega (arith, below))
 
-module _ (s : Site) (permits : List Permit) (j : Pairs) (are : ArePairsOf s permits j) where
+module _ (s : Site) (v : Views) (permits : List Permit) (j : Pairs) (are : ArePairsOf s v permits j) where
   abbrev all : List (ℕ × ℕ)
   all = pairs_of (all_nets s.policy) (all_nets s.policy)
 
   abbrev wanted : ℕ × ℕ → Bool
-  wanted e = is_joined_pair s permits (record { src = e.0; dst = e.1 })
+  wanted e = is_concerned_pair s v permits (record { src = e.0; dst = e.1 })
 
   pub pair_in : (w : ℕ) → w < length j.pairs → IsIn (pair_at j.pairs w) all × (wanted (pair_at j.pairs w) ≡ true)
   pair_in w h =
@@ -69,17 +68,35 @@ module _ (s : Site) (permits : List Permit) (j : Pairs) (are : ArePairsOf s perm
   pairs_in_order = subst (AllPairs IsBefore) (sym are.pairs) (places_rise IsBefore (filter wanted all) (some_rise wanted (length s.policy.nets) (length s.policy.nets)))
 
   -- the zones of the pairs are among those whose walks the lists depend on
-  pub are_named : (v : Views) (names : List (ℕ × ℕ)) → IsSite s → ArePermits s.policy permits → AreApart s v → names ≡ zone_pairs s v permits → AreNamed s j.pairs names
-  are_named v names site given apart e =
+  pub are_named : (names : List (ℕ × ℕ)) → IsSite s → names ≡ zone_pairs s v permits → AreNamed s j.pairs names
+  are_named names site e =
       record {
         src = src_there;
         dst = dst_there;
         named = λ w h.
             let p = pair_at j.pairs w in
-            let t = and_parts (is_joined permits (record { src = p.0; dst = p.1 })) (not (zone_of s p.0 == zone_of s p.1)) (pair_in w h).1 in
-            let listed = joined_listed s v permits site given apart (record { src = p.0; dst = p.1 }) (record { src = src_there w h; dst = dst_there w h }) t.0 (not-true (zone_of s p.0 == zone_of s p.1) t.1) in
+            let t = and_parts (not (zone_of s p.0 == zone_of s p.1)) (is_concerned s v permits (record { src = p.0; dst = p.1 })) (pair_in w h).1 in
+            let listed = concerned_listed s v permits (record { src = p.0; dst = p.1 }) site (record { src = src_there w h; dst = dst_there w h }) t.1 (not-true (zone_of s p.0 == zone_of s p.1) t.0) in
             subst (λ (ns : List (ℕ × ℕ)). Contains ns (zone_of s p.0, zone_of s p.1)) (sym e) (in_contains (zone_pairs s v permits) (zone_of s p.0, zone_of s p.1) listed);
       }
+
+  -- the rows have the numbers of permits
+  pub are_less : (n : ℕ) → n ≡ length permits → AreLess n j
+  are_less n count =
+      record {
+        forward = λ w h. less (belongs_to false w) (row_at j.forward w) (are.forward w h);
+        replied = λ w h. less (belongs_to true w) (row_at j.replied w) (are.replied w h);
+      }
+    where
+      belongs_to : Bool → ℕ → ℕ → Bool
+      belongs_to back w k = belongs s.zones j.pairs back (permit_at permits k) w
+
+      less : (test : ℕ → Bool) (row : List ℕ) → row ≡ filter test (numbers_below (length permits)) → All (λ k. k < n) row
+      less test row e = λ k d below.
+          let x = slice_index_or row k d in
+          let i = subst (IsIn x) e (contains_in row x (k, below, get_or_default row k x d below)) in
+          let low = below_count (length permits) x (from_filter test x (numbers_below (length permits)) i).0 in
+          omega (arith, low, count)
 
 -- some pair that matters goes between the zones
 abbrev is_zone_pair : Site → Views → List Permit → ℕ × ℕ → Bool
@@ -90,10 +107,10 @@ pub zones_in_order : (s : Site) (v : Views) (permits : List Permit) (names : Lis
 zones_in_order s v permits names e = subst (AllPairs IsBefore) (sym e) (places_rise IsBefore (zone_pairs s v permits) (some_rise (is_zone_pair s v permits) (zone_count s) (zone_count s)))
 
 -- the pairs with their rows
-pub are_pairs : (s : Site) (permits : List Permit) (pairs qs rs : List (ℕ × ℕ)) (forward replied : List (List ℕ)) (n : ℕ) → n ≡ length permits →
-    pairs ≡ filter (λ e. is_joined_pair s permits (record { src = e.0; dst = e.1 })) (pairs_of (all_nets s.policy) (all_nets s.policy)) → qs ≡ pairs → rs ≡ pairs → length forward ≡ length qs → length replied ≡ length rs →
-    HasGroups (λ k. k) forward (row_below s.zones qs false permits n) → HasGroups (λ k. k) replied (row_below s.zones rs true permits n) → ArePairsOf s permits (record { pairs = pairs; forward = forward; replied = replied })
-are_pairs s permits pairs qs rs forward replied n count is e f each_forward each_replied forth back =
+pub are_pairs : (s : Site) (v : Views) (permits : List Permit) (pairs qs rs : List (ℕ × ℕ)) (forward replied : List (List ℕ)) (n : ℕ) → n ≡ length permits →
+    pairs ≡ concerned_pairs s v permits → qs ≡ pairs → rs ≡ pairs → length forward ≡ length qs → length replied ≡ length rs →
+    HasGroups (λ k. k) forward (row_below s.zones qs false permits n) → HasGroups (λ k. k) replied (row_below s.zones rs true permits n) → ArePairsOf s v permits (record { pairs = pairs; forward = forward; replied = replied })
+are_pairs s v permits pairs qs rs forward replied n count is e f each_forward each_replied forth back =
     let m = ap length e in
     let k = ap length f in
     record {

@@ -8,10 +8,13 @@ pub mod Nth
 pub mod PathRows
 pub mod Placing
 pub mod Buckets
-pub mod ZonePairs
+pub mod Concerns
 pub mod NetPairs
+pub mod AllConcerned
+pub mod ZonePairs
 pub mod Joining
 pub mod Walkless
 pub mod FirstWalk
 pub mod Sighted
 pub mod Limited
+pub mod Flagged

@@ -6,26 +6,20 @@ use Rattle.std.proofs.lemmas.Bool.{leb-true, le-leb, false≢true, cases_lt}
 use Rattle.std.proofs.lemmas.List.{take_all, map_push, map_more}
 use Rattle.std.proofs.lemmas.List.Sums.{sum-map, sum_by_more, sum_by-take-le}
 use Rattle.spoc_base.specs.declared.ids.IfId.{IfId}
-use Rattle.policy_model.specs.Policy.{Policy, router_at, net_at, is_managed, all_ifaces}
-use Rattle.policy_model.specs.Zones.{Site, IsSite}
+use Rattle.policy_model.specs.Policy.{Policy, router_at, is_managed, all_ifaces}
+use Rattle.policy_model.specs.Zones.{Site}
 use Rattle.policy_model.specs.Tags.{Views}
 use Rattle.policy_model.specs.Permits.{Permit}
-use Rattle.policy_model.specs.Blocks.{Block, is_ios_at, placement, list_at, view_here}
+use Rattle.policy_model.specs.Blocks.{Block, placement, list_at}
 use Rattle.policy_model.specs.FirstFault.{line_count}
 use Rattle.policy_model.proofs.AllWalks.{IsIn, in_map}
 use Rattle.list_laws.proofs.Members.{from_filter}
-use Rattle.policy_laws.proofs.InnerViews.{zone_below}
-use Rattle.topology.specs.Sound.{IsNumbered}
 use Rattle.acl_build.specs.Given.{AreKnown}
 use Rattle.line_limit.specs.Left.{left_after}
-use Rattle.rule_distribute.specs.Apart.{AreApart}
 use Rattle.rule_distribute.specs.Distributed.{managed_ifaces}
 use Rattle.rule_distribute.specs.Given.{ArePermits}
-use Rattle.rule_distribute.specs.Paths.{path_row}
-use Rattle.rule_distribute.specs.Placed.{Pairs, ArePairsOf, placed}
 use Rattle.rule_distribute.proofs.Rising.{contains_in}
-use Rattle.rule_distribute.proofs.ZonePairs.{below_count}
-use Rattle.rule_distribute.proofs.Placing.{IsShown, placed_is}
+use Rattle.rule_distribute.proofs.Concerns.{below_count}
 
 -- ---- what is left
 
@@ -80,20 +74,6 @@ pub id_below : (p : Policy) (ids : List IfId) (k : ℕ) (x : IfId) → map (λ i
 id_below p ids k x e below is =
     let i = subst (IsIn x.0) e (in_map (λ (i : IfId). i.0) x ids (contains_in ids x (k, below, sym is))) in
     below_count (length p.ifaces) x.0 (from_filter (λ i. is_managed p (router_at p i)) x.0 (all_ifaces p) i).0
-
-pub placed_there : (s : Site) (v : Views) (permits : List Permit) (i : ℕ) (j : Pairs) (blocks : List Block) → IsSite s → ArePermits s.policy permits → AreApart s v → ArePairsOf s permits j →
-    ((view : List ℕ) (n : ℕ) → n < length s.policy.nets → IsShown s.policy view n) → IsNumbered s.policy → i < length s.policy.ifaces →
-    blocks ≡ placed s.policy j (is_ios_at s.policy i) (path_row s j.pairs (length j.pairs) i) → blocks ≡ placement s v permits i
-placed_there s v permits i j blocks site given apart are shown numbered below e =
-    e
-    ∙ placed_is s v permits i j site given apart
-    (record {
-      pairs = are.pairs;
-      forward = are.forward;
-      replied = are.replied;
-      shown = shown (view_here s v permits i);
-      zone = zone_below s site (net_at s.policy i) (numbered.placed i below).0;
-    })
 
 pub tuple_same : {A : Type 0} {a b : ℕ} {x y : A} → a ≡ b → x ≡ y → ◌≡◌ {A = ℕ × A} (a, x) (b, y)
 tuple_same {A} {a} {b} {x} {y} e f = ap (λ (n : ℕ). let r : ℕ × A = (n, x) in r) e ∙ ap (λ (z : A). let r : ℕ × A = (b, z) in r) f

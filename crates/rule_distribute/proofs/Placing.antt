@@ -3,28 +3,32 @@ use Rattle.std.proofs.Common.{◌≡◌, ℕ, suc, ◌+◌, ◌-◌, ◌<◌, �
 use Rattle.std.specs.Prelude.{◌==◌, Some, is_some, filter, slice_index}
 use Rattle.std.specs.List.{list_any, range_with_len, enumerate_from}
 use Rattle.std.specs.Option.{option_map_or}
-use Rattle.std.proofs.lemmas.Bool.{both_ways as both_truths, and_parts, and_from, and_left, or_cases, or_left, or_right, or_from, eqb-true, eq-eqb, not-true, not_from_false, false_from_ne_true, false≢true}
+use Rattle.std.proofs.lemmas.Bool.{both_ways as both_truths, and_parts, and_from, or_cases, or_left, or_right, eqb-true, eq-eqb, not-true, not_from_false, false_from_ne_true, false≢true}
 use Rattle.std.proofs.lemmas.List.{get_or_default}
 use Rattle.std.proofs.lemmas.List.Concat.{flat_map-cons}
 use Rattle.std.proofs.lemmas.List.FromFn.{fill_by_all}
 use Rattle.spoc_base.specs.Address.{Cidr}
 use Rattle.policy_model.specs.Lists.{numbers_below, pairs_of, is_nothing}
 use Rattle.policy_model.specs.Policy.{Policy, net_of, all_nets}
-use Rattle.policy_model.specs.Zones.{Site, IsSite, zone_of, zone_at, zone_count}
-use Rattle.policy_model.specs.Tags.{Views}
+use Rattle.policy_model.specs.Zones.{Site, zone_of, zone_at, zone_count}
+use Rattle.policy_model.specs.Tags.{Views, zone_view}
 use Rattle.policy_model.specs.Places.{prefix_in, length_in}
 use Rattle.policy_model.specs.Permits.{Permit, has_replies}
+use Rattle.policy_model.specs.Filters.{Line}
 use Rattle.policy_model.specs.Walks.{is_allowed_walk, all_paths, allowed_walks}
-use Rattle.policy_model.specs.Blocks.{NetPair, Block, all_pairs, is_ios_at, is_on_path, pairs_on_path, places_where, permit_at, no_permit, permits_between, replied_between, is_round, is_seen, view_here, pair_lines, encloses, reaches_into, is_closed, block_of, is_needed, depth_of, placement, is_joined, is_joined_pair}
-use Rattle.policy_model.proofs.AllWalks.{IsIn, in_map, parts_of}
-use Rattle.rule_distribute.proofs.Rising.{contains_in}
-use Rattle.list_laws.proofs.Members.{from_filter, filter_same, some_in, some_of, same_truth}
-use Rattle.rule_distribute.specs.Apart.{AreApart}
-use Rattle.rule_distribute.specs.Given.{ArePermits}
+use Rattle.policy_model.specs.Blocks.{NetPair, Block, all_pairs, is_ios_at, is_on_path, pairs_on_path, places_where, permit_at, no_permit, permits_between, replied_between, is_round, is_seen, view_here, is_closed, block_of, is_needed, depth_of, placement, is_joined, is_joined_pair, is_concerned}
+use Rattle.policy_model.proofs.AllWalks.{IsIn, in_map, in_filter, in_numbers, from_map, parts_of}
+use Rattle.policy_model.proofs.Views.{list_any_map}
+use Rattle.list_laws.proofs.Members.{from_filter, filter_same, some_in, some_of, same_truth, in_either}
+use Rattle.list_laws.proofs.Tables.{from_flat_map}
+use Rattle.acl_build.specs.Pieces.{forward_lines, mirrored_lines}
+use Rattle.closed_pairs.specs.Reaching.{PairNumbers, permits_here, lines_between, reaches_pair, encloses_in}
+use Rattle.rule_distribute.specs.Concerned.{is_concerned_pair}
 use Rattle.rule_distribute.specs.Paths.{is_on_way, path_row}
-use Rattle.rule_distribute.specs.Placed.{Pairs, row_at, block_at, is_filled, shallow, is_in_bucket, bucket, placed}
-use Rattle.rule_distribute.specs.Rows.{pair_at, ends_of, same_pair, belongs, row_below}
-use Rattle.rule_distribute.proofs.ZonePairs.{pair_there, round_is_same, below_count}
+use Rattle.rule_distribute.specs.Placed.{Pairs, row_at, ArePairsOf, numbers_at, is_shut, told_closed, block_at, is_filled, shallow, is_in_bucket, bucket, placed}
+use Rattle.rule_distribute.specs.Rows.{pair_at, ends_of, same_pair, belongs}
+use Rattle.rule_distribute.proofs.Rising.{contains_in, in_contains}
+use Rattle.rule_distribute.proofs.Concerns.{below_count, pair_there, joined_concerned}
 
 -- ---- lists
 
@@ -94,21 +98,28 @@ pair_from a b e f = and_from (a.0 == b.0) (a.1 == b.1) (eq-eqb a.0 b.0 e) (eq-eq
 
 -- what is kept for an interface
 pub record AreKept (s : Site) (v : Views) (permits : List Permit) (i : ℕ) (j : Pairs) : Type 0 where
-  pub pairs : j.pairs ≡ filter (λ e. is_joined_pair s permits (record { src = e.0; dst = e.1 })) (pairs_of (all_nets s.policy) (all_nets s.policy))
-  pub forward : (w : ℕ) → w < length j.pairs → row_at j.forward w ≡ row_below s.zones j.pairs false permits (length permits) w
-  pub replied : (w : ℕ) → w < length j.pairs → row_at j.replied w ≡ row_below s.zones j.pairs true permits (length permits) w
+  pub pairs : ArePairsOf s v permits j
   pub shown : (n : ℕ) → n < length s.policy.nets → IsShown s.policy (view_here s v permits i) n
   pub zone : zone_at s i < zone_count s
 
-module _ (s : Site) (v : Views) (permits : List Permit) (i : ℕ) (j : Pairs) (site : IsSite s) (given : ArePermits s.policy permits) (apart : AreApart s v) (kept : AreKept s v permits i j) where
+module _ (s : Site) (v : Views) (permits : List Permit) (i : ℕ) (j : Pairs) (kept : AreKept s v permits i j) where
   abbrev all : List (ℕ × ℕ)
   all = pairs_of (all_nets s.policy) (all_nets s.policy)
 
   abbrev wanted : ℕ × ℕ → Bool
-  wanted e = is_joined_pair s permits (record { src = e.0; dst = e.1 })
+  wanted e = is_concerned_pair s v permits (record { src = e.0; dst = e.1 })
 
   abbrev told : Bool
   told = is_ios_at s.policy i
+
+  abbrev here : List ℕ
+  here = view_here s v permits i
+
+  abbrev row : List ℕ
+  row = path_row s j.pairs (length j.pairs) i
+
+  abbrev shut : ℕ → Bool
+  shut w = is_shut s.policy here permits j told row w
 
   abbrev block_for : ℕ × ℕ → Block
   block_for e = block_of s v permits i (named e)
@@ -116,31 +127,10 @@ module _ (s : Site) (v : Views) (permits : List Permit) (i : ℕ) (j : Pairs) (s
   all_named : all_pairs s.policy ≡ map named all
   all_named = refl
 
-  -- nothing is closed
-  not_closed : (e : NetPair) → IsIn e (all_pairs s.policy) → is_closed s v permits i e ≡ false
-  not_closed e h =
-      none (λ outer. encloses s v permits i outer e && list_any (reaches_into s v permits i e) (pair_lines s v permits i outer)) (pairs_on_path s i)
-      (λ outer k.
-      let there = from_filter (is_on_path s i) outer (all_pairs s.policy) k in
-      and_left (encloses s v permits i outer e) (list_any (reaches_into s v permits i e) (pair_lines s v permits i outer)) (apart_from outer there.0))
-    where
-      none : {A : Type 0} (test : A → Bool) (xs : List A) → ((x : A) → IsIn x xs → test x ≡ false) → list_any test xs ≡ false
-      none test [] h = refl
-      none test (x ∷ xs) h = or_from (test x) (list_any test xs) (h x (inl refl)) (none test xs (λ y i. h y (inr i)))
-
-      apart_from : (outer : NetPair) → IsIn outer (all_pairs s.policy) → encloses s v permits i outer e ≡ false
-      apart_from outer k =
-          false_from_ne_true (encloses s v permits i outer e)
-          (λ t.
-          let w = and_parts (not ((outer.src == e.src) && (outer.dst == e.dst))) (is_round s.policy (view_here s v permits i) outer e) t in
-          let same = round_is_same s v permits site given apart (zone_at s i) outer e kept.zone (pair_there s v permits site given apart outer k) (pair_there s v permits site given apart e h) w.1 in
-          both_truths ((outer.src == e.src) && (outer.dst == e.dst)) (not-true ((outer.src == e.src) && (outer.dst == e.dst)) w.0)
-          (and_from (outer.src == e.src) (outer.dst == e.dst) (eq-eqb outer.src e.src (sym (ap (λ (x : NetPair). x.src) same))) (eq-eqb outer.dst e.dst (sym (ap (λ (x : NetPair). x.dst) same)))))
-
   -- ---- one pair's rows
 
   differ_of : (e : ℕ × ℕ) → wanted e ≡ true → (zone_of s e.0 == zone_of s e.1) ≡ false
-  differ_of e h = not-true (zone_of s e.0 == zone_of s e.1) (and_parts (is_joined permits (named e)) (not (zone_of s e.0 == zone_of s e.1)) h).1
+  differ_of e h = not-true (zone_of s e.0 == zone_of s e.1) (and_parts (not (zone_of s e.0 == zone_of s e.1)) (is_concerned s v permits (named e)) h).0
 
   abbrev straight : ℕ × ℕ → Permit → Bool
   straight e q = (q.src.net == e.0) && (q.dst.net == e.1)
@@ -181,44 +171,34 @@ module _ (s : Site) (v : Views) (permits : List Permit) (i : ℕ) (j : Pairs) (s
   pair_wanted : (w : ℕ) → w < length j.pairs → IsIn (pair_at j.pairs w) all × (wanted (pair_at j.pairs w) ≡ true)
   pair_wanted w h =
       let e = pair_at j.pairs w in
-      from_filter wanted e all (subst (IsIn e) kept.pairs (contains_in j.pairs e (w, h, get_or_default j.pairs w e (0, 0) h)))
+      from_filter wanted e all (subst (IsIn e) kept.pairs.pairs (contains_in j.pairs e (w, h, get_or_default j.pairs w e (0, 0) h)))
 
   forward_is : (w : ℕ) → w < length j.pairs → row_at j.forward w ≡ permits_between permits (pair_at j.pairs w).0 (pair_at j.pairs w).1
   forward_is w h =
-      kept.forward w h
+      kept.pairs.forward w h
       ∙ (filter_same (λ k. belongs s.zones j.pairs false (permit_at permits k) w) (λ k. straight (pair_at j.pairs w) (permit_at permits k)) (numbers_below (length permits)) (λ k m. forward_test w (permit_at permits k) (pair_wanted w h).1)
       ∙ sym (places_are (straight (pair_at j.pairs w)) permits))
 
   replied_is : (w : ℕ) → w < length j.pairs → row_at j.replied w ≡ filter (λ k. has_replies (permit_at permits k).box) (permits_between permits (pair_at j.pairs w).1 (pair_at j.pairs w).0)
   replied_is w h =
       let e = pair_at j.pairs w in
-      kept.replied w h
+      kept.pairs.replied w h
       ∙ (filter_same (λ k. belongs s.zones j.pairs true (permit_at permits k) w) (λ k. turned e (permit_at permits k) && has_replies (permit_at permits k).box) (numbers_below (length permits)) (λ k m. back_test w (permit_at permits k) (pair_wanted w h).1)
       ∙ (sym (filter_twice (λ k. turned e (permit_at permits k)) (λ k. has_replies (permit_at permits k).box) (numbers_below (length permits)))
       ∙ ap (filter (λ k. has_replies (permit_at permits k).box)) (sym (places_are (turned e) permits))))
 
-  block_is : (w : ℕ) → w < length j.pairs → block_at j told w ≡ block_for (pair_at j.pairs w)
-  block_is w h =
+  -- the permits of a pair at the interface
+  numbers_are : (w : ℕ) → w < length j.pairs → numbers_at j told w ≡ permits_here s.policy permits i (named (pair_at j.pairs w))
+  numbers_are w h =
       let e = pair_at j.pairs w in
       let pair = named e in
-      let closed = not_closed pair (in_map named e all (pair_wanted w h).0) in
-      ap (λ (xs : List ℕ). let b : Block = record { pair = pair; forward = xs; mirrored = cond told (row_at j.replied w) []; closed = false } in b) (forward_is w h)
-      ∙ (ap (λ (xs : List ℕ). let b : Block = record { pair = pair; forward = permits_between permits e.0 e.1; mirrored = cond told xs []; closed = false } in b) (replied_is w h)
-      ∙ ap (λ (c : Bool). let b : Block = record { pair = pair; forward = permits_between permits e.0 e.1; mirrored = replied_between s.policy permits i pair; closed = c } in b) (sym closed))
+      ap (λ (xs : List ℕ). let n : PairNumbers = record { pair = pair; forward = xs; mirrored = cond told (row_at j.replied w) [] } in n) (forward_is w h)
+      ∙ ap (λ (xs : List ℕ). let n : PairNumbers = record { pair = pair; forward = permits_between permits e.0 e.1; mirrored = cond told xs [] } in n) (replied_is w h)
 
-  -- ---- which pairs are placed
+  -- ---- which pairs are kept
 
   abbrev on : ℕ × ℕ → Bool
   on e = is_on_path s i (named e)
-
-  abbrev need : ℕ × ℕ → Bool
-  need e = is_needed s v permits i (block_for e)
-
-  abbrev deep : ℕ → ℕ × ℕ → Bool
-  deep k e = depth_of s v permits i (named e) == 64 - k
-
-  abbrev passes : ℕ → ℕ × ℕ → Bool
-  passes k e = (on e && need e) && deep k e
 
   some_item : (xs : List ℕ) → not (is_nothing xs) ≡ true → (x : ℕ) × IsIn x xs
   some_item [] h = absurd (false≢true h)
@@ -230,39 +210,157 @@ module _ (s : Site) (v : Views) (permits : List Permit) (i : ℕ) (j : Pairs) (s
       let below = below_count (length permits) k w.0 in
       (contains_in permits (permit_at permits k) (k, below, get_or_default permits k (permit_at permits k) no_permit below), w.1)
 
-  joined_forward : (e : ℕ × ℕ) → not (is_nothing (permits_between permits e.0 e.1)) ≡ true → is_joined permits (named e) ≡ true
-  joined_forward e h =
-      let k = some_item (permits_between permits e.0 e.1) h in
-      let q = in_permits (straight e) k.0 k.1 in
-      some_of (λ q. straight e q || turned e q) (permit_at permits k.0) permits q.0 (or_left (straight e (permit_at permits k.0)) (turned e (permit_at permits k.0)) q.1)
+  joined_forward : (e : ℕ × ℕ) (k : ℕ) → IsIn k (permits_between permits e.0 e.1) → is_joined permits (named e) ≡ true
+  joined_forward e k m =
+      let q = in_permits (straight e) k m in
+      some_of (λ q. straight e q || turned e q) (permit_at permits k) permits q.0 (or_left (straight e (permit_at permits k)) (turned e (permit_at permits k)) q.1)
 
-  joined_back : (e : ℕ × ℕ) → not (is_nothing (replied_between s.policy permits i (named e))) ≡ true → is_joined permits (named e) ≡ true
-  joined_back e h = go told h
+  joined_back : (e : ℕ × ℕ) (k : ℕ) → IsIn k (replied_between s.policy permits i (named e)) → is_joined permits (named e) ≡ true
+  joined_back e k m = go told m
     where
-      go : (b : Bool) → not (is_nothing (cond b (filter (λ k. has_replies (permit_at permits k).box) (permits_between permits e.1 e.0)) [])) ≡ true → is_joined permits (named e) ≡ true
-      go false h = absurd (false≢true h)
-      go true h =
-          let k = some_item (filter (λ k. has_replies (permit_at permits k).box) (permits_between permits e.1 e.0)) h in
-          let m = from_filter (λ k. has_replies (permit_at permits k).box) k.0 (permits_between permits e.1 e.0) k.1 in
-          let q = in_permits (turned e) k.0 m.0 in
-          some_of (λ q. straight e q || turned e q) (permit_at permits k.0) permits q.0 (or_right (straight e (permit_at permits k.0)) (turned e (permit_at permits k.0)) q.1)
+      go : (b : Bool) → IsIn k (cond b (filter (λ k. has_replies (permit_at permits k).box) (permits_between permits e.1 e.0)) []) → is_joined permits (named e) ≡ true
+      go false m = absurd m
+      go true m =
+          let n = from_filter (λ k. has_replies (permit_at permits k).box) k (permits_between permits e.1 e.0) m in
+          let q = in_permits (turned e) k n.0 in
+          some_of (λ q. straight e q || turned e q) (permit_at permits k) permits q.0 (or_right (straight e (permit_at permits k)) (turned e (permit_at permits k)) q.1)
 
-  way_differs : (e : ℕ × ℕ) → on e ≡ true → not (zone_of s e.0 == zone_of s e.1) ≡ true
+  way_differs : (e : ℕ × ℕ) → on e ≡ true → (zone_of s e.0 == zone_of s e.1) ≡ false
   way_differs e h =
       let path = some_in (λ path. list_any (λ c. c.enter == i) path) (allowed_walks s (zone_of s e.0) (zone_of s e.1)) h in
+      not-true (zone_of s e.0 == zone_of s e.1)
       (parts_of s (zone_of s e.0) (zone_of s e.1) path.0 (from_filter (is_allowed_walk s (zone_of s e.0) (zone_of s e.1)) path.0 (all_paths s) path.1).1).elsewhere
+
+  -- a pair with a line has a permit
+  lines_joined : (e : ℕ × ℕ) (l : Line) → IsIn l (lines_between s.policy here permits (permits_here s.policy permits i (named e))) → is_joined permits (named e) ≡ true
+  lines_joined e l m =
+      let forth = forward_lines s.policy here permits in
+      let back = mirrored_lines s.policy here permits in
+      ⊎_elim (λ f. let k = from_flat_map forth l (permits_between permits e.0 e.1) f in joined_forward e k.0 k.1)
+      (λ f. let k = from_flat_map back l (replied_between s.policy permits i (named e)) f in joined_back e k.0 k.1)
+      (in_either l (flat_map forth (permits_between permits e.0 e.1)) (flat_map back (replied_between s.policy permits i (named e))) m)
+
+  -- ---- which pairs are closed
+
+  abbrev inner : ℕ × ℕ → PairNumbers
+  inner e = permits_here s.policy permits i (named e)
+
+  abbrev reached_from : NetPair → PairNumbers → PairNumbers → Bool
+  reached_from pair own outer = encloses_in s.policy here outer.pair pair && list_any (reaches_pair s.policy here permits own) (lines_between s.policy here permits outer)
+
+  abbrev closed_by : ℕ × ℕ → NetPair → Bool
+  closed_by e outer = reached_from (named e) (inner e) (permits_here s.policy permits i outer)
+
+  closed_law : (e : ℕ × ℕ) → is_closed s v permits i (named e) ≡ list_any (closed_by e) (pairs_on_path s i)
+  closed_law e = refl
+
+  -- a pair on path with a line that reaches into another one
+  record IsOuter (e : ℕ × ℕ) : Type 0 where
+    pub pair : ℕ × ℕ
+    pub there : IsIn pair all
+    pub on_path : on pair ≡ true
+    pub round : encloses_in s.policy here (named pair) (named e) ≡ true
+    pub joined : is_joined permits (named pair) ≡ true
+    pub closes : closed_by e (named pair) ≡ true
+
+  outer_of : (e : ℕ × ℕ) (outer : NetPair) → IsIn outer (pairs_on_path s i) → closed_by e outer ≡ true → IsOuter e
+  outer_of e outer m h =
+      let w = from_filter (is_on_path s i) outer (all_pairs s.policy) m in
+      let f = from_map named outer all w.0 in
+      let closes : closed_by e (named f.0) ≡ true = subst (λ (o : NetPair). closed_by e o ≡ true) f.2 h in
+      let parts = and_parts (encloses_in s.policy here (named f.0) (named e)) (list_any (reaches_pair s.policy here permits (inner e)) (lines_between s.policy here permits (inner f.0))) closes in
+      let line = some_in (reaches_pair s.policy here permits (inner e)) (lines_between s.policy here permits (inner f.0)) parts.1 in
+      record {
+        pair = f.0;
+        there = f.1;
+        on_path = subst (λ (o : NetPair). is_on_path s i o ≡ true) f.2 w.1;
+        round = parts.0;
+        joined = lines_joined f.0 line.0 line.1;
+        closes = closes;
+      }
+
+  outer_wanted : (e : ℕ × ℕ) (o : IsOuter e) → wanted o.pair ≡ true
+  outer_wanted e o = joined_concerned s v permits o.pair o.there o.joined (way_differs o.pair o.on_path)
+
+  -- that pair has its place in the row
+  outer_place : (e : ℕ × ℕ) (o : IsOuter e) → (x : ℕ) × IsIn x row × (◌≡◌ {A = ℕ × ℕ} (pair_at j.pairs x) o.pair)
+  outer_place e o =
+      let c = in_contains j.pairs o.pair (subst (IsIn o.pair) (sym kept.pairs.pairs) (in_filter wanted o.pair all o.there (outer_wanted e o))) in
+      let is : ◌≡◌ {A = ℕ × ℕ} (pair_at j.pairs c.0) o.pair = get_or_default j.pairs c.0 (0, 0) o.pair c.1 ∙ c.2 in
+      (c.0, in_filter (is_on_way s j.pairs i) c.0 (numbers_below (length j.pairs)) (in_numbers (length j.pairs) c.0 c.1) (subst (λ (p : ℕ × ℕ). on p ≡ true) (sym is) o.on_path), is)
+
+  row_closes : (e : ℕ × ℕ) (x : ℕ) → x < length j.pairs → reached_from (named e) (inner e) (numbers_at j told x) ≡ closed_by e (named (pair_at j.pairs x))
+  row_closes e x h = ap (reached_from (named e) (inner e)) (numbers_are x h)
+
+  closed_in_row : (e : ℕ × ℕ) → list_any (λ x. reached_from (named e) (inner e) (numbers_at j told x)) row ≡ list_any (closed_by e) (pairs_on_path s i)
+  closed_in_row e =
+      let test = λ (x : ℕ). reached_from (named e) (inner e) (numbers_at j told x) in
+      same_truth (list_any test row) (list_any (closed_by e) (pairs_on_path s i))
+      (λ t.
+      let x = some_in test row t in
+      let m = from_filter (is_on_way s j.pairs i) x.0 (numbers_below (length j.pairs)) x.1 in
+      let below = below_count (length j.pairs) x.0 m.0 in
+      let p = pair_at j.pairs x.0 in
+      some_of (closed_by e) (named p) (pairs_on_path s i) (in_filter (is_on_path s i) (named p) (all_pairs s.policy) (in_map named p all (pair_wanted x.0 below).0) m.1) (sym (row_closes e x.0 below) ∙ x.2))
+      (λ t.
+      let o = some_in (closed_by e) (pairs_on_path s i) t in
+      let outer = outer_of e o.0 o.1 o.2 in
+      let x = outer_place e outer in
+      let below = below_count (length j.pairs) x.0 (from_filter (is_on_way s j.pairs i) x.0 (numbers_below (length j.pairs)) x.1).0 in
+      some_of test x.0 row x.1 (row_closes e x.0 below ∙ (ap (λ (p : ℕ × ℕ). closed_by e (named p)) x.2 ∙ outer.closes)))
+
+  -- a pair is closed just where a pair of the row closes it
+  closed_is : (w : ℕ) → w < length j.pairs → shut w ≡ is_closed s v permits i (named (pair_at j.pairs w))
+  closed_is w h =
+      let e = pair_at j.pairs w in
+      list_any_map (reached_from (named e) (numbers_at j told w)) (numbers_at j told) row
+      ∙ (ap (λ (own : PairNumbers). list_any (λ (x : ℕ). reached_from (named e) own (numbers_at j told x)) row) (numbers_are w h)
+      ∙ (closed_in_row e ∙ sym (closed_law e)))
+
+  block_is : (w : ℕ) → w < length j.pairs → block_at j told (w, shut w) ≡ block_for (pair_at j.pairs w)
+  block_is w h =
+      let e = pair_at j.pairs w in
+      let pair = named e in
+      ap (λ (xs : List ℕ). let b : Block = record { pair = pair; forward = xs; mirrored = cond told (row_at j.replied w) []; closed = shut w } in b) (forward_is w h)
+      ∙ (ap (λ (xs : List ℕ). let b : Block = record { pair = pair; forward = permits_between permits e.0 e.1; mirrored = cond told xs []; closed = shut w } in b) (replied_is w h)
+      ∙ ap (λ (c : Bool). let b : Block = record { pair = pair; forward = permits_between permits e.0 e.1; mirrored = replied_between s.policy permits i pair; closed = c } in b) (closed_is w h))
+
+  -- ---- which pairs are placed
+
+  abbrev need : ℕ × ℕ → Bool
+  need e = is_needed s v permits i (block_for e)
+
+  abbrev deep : ℕ → ℕ × ℕ → Bool
+  deep k e = depth_of s v permits i (named e) == 64 - k
+
+  abbrev passes : ℕ → ℕ × ℕ → Bool
+  passes k e = (on e && need e) && deep k e
+
+  -- a closed pair lies within one that a permit joins
+  closed_wanted : (e : ℕ × ℕ) → on e ≡ true → is_closed s v permits i (named e) ≡ true → wanted e ≡ true
+  closed_wanted e o h =
+      let c = some_in (closed_by e) (pairs_on_path s i) (sym (closed_law e) ∙ h) in
+      let outer = outer_of e c.0 c.1 c.2 in
+      let p = outer.pair in
+      let apart : not (zone_of s p.0 == zone_of s p.1) ≡ true = not_from_false (zone_of s p.0 == zone_of s p.1) (way_differs p outer.on_path) in
+      let pair : is_joined_pair s permits (named p) ≡ true = and_from (is_joined permits (named p)) (not (zone_of s p.0 == zone_of s p.1)) outer.joined apart in
+      let round = (and_parts (not ((p.0 == e.0) && (p.1 == e.1))) (is_round s.policy here (named p) (named e)) outer.round).1 in
+      let zone = some_of (λ z. is_round s.policy (zone_view v z) (named p) (named e)) (zone_at s i) (numbers_below (zone_count s)) (in_numbers (zone_count s) (zone_at s i) kept.zone) round in
+      let within = some_of (λ outer. is_joined_pair s permits outer && list_any (λ z. is_round s.policy (zone_view v z) outer (named e)) (numbers_below (zone_count s))) (named p) (all_pairs s.policy) (in_map named p all outer.there)
+      (and_from (is_joined_pair s permits (named p)) (list_any (λ z. is_round s.policy (zone_view v z) (named p) (named e)) (numbers_below (zone_count s))) pair zone) in
+      and_from (not (zone_of s e.0 == zone_of s e.1)) (is_concerned s v permits (named e)) (not_from_false (zone_of s e.0 == zone_of s e.1) (way_differs e o)) (or_right (is_joined_pair s permits (named e)) _ within)
 
   passed_wanted : (k : ℕ) (e : ℕ × ℕ) → IsIn e all → passes k e ≡ true → wanted e ≡ true
   passed_wanted k e h t =
       let a = and_parts (on e && need e) (deep k e) t in
       let b = and_parts (on e) (need e) a.0 in
-      let c = and_parts (is_seen s.policy (view_here s v permits i) (named e)) (not (is_nothing (permits_between permits e.0 e.1)) || not (is_nothing (replied_between s.policy permits i (named e))) || is_closed s v permits i (named e)) b.1 in
-      and_from (is_joined permits (named e)) (not (zone_of s e.0 == zone_of s e.1))
-      (⊎_elim
-      (λ f. ⊎_elim (joined_forward e) (joined_back e) (or_cases (not (is_nothing (permits_between permits e.0 e.1))) (not (is_nothing (replied_between s.policy permits i (named e)))) f))
-      (λ f. absurd (both_truths (is_closed s v permits i (named e)) (not_closed (named e) (in_map named e all h)) f))
-      (or_cases (not (is_nothing (permits_between permits e.0 e.1)) || not (is_nothing (replied_between s.policy permits i (named e)))) (is_closed s v permits i (named e)) c.1))
-      (way_differs e b.0)
+      let c = and_parts (is_seen s.policy here (named e)) (not (is_nothing (permits_between permits e.0 e.1)) || not (is_nothing (replied_between s.policy permits i (named e))) || is_closed s v permits i (named e)) b.1 in
+      let joined = λ (m : is_joined permits (named e) ≡ true). joined_concerned s v permits e h m (way_differs e b.0) in
+      ⊎_elim
+      (λ f. ⊎_elim (λ g. let k = some_item (permits_between permits e.0 e.1) g in joined (joined_forward e k.0 k.1)) (λ g. let k = some_item (replied_between s.policy permits i (named e)) g in joined (joined_back e k.0 k.1))
+      (or_cases (not (is_nothing (permits_between permits e.0 e.1))) (not (is_nothing (replied_between s.policy permits i (named e)))) f))
+      (λ f. closed_wanted e b.0 f)
+      (or_cases (not (is_nothing (permits_between permits e.0 e.1)) || not (is_nothing (replied_between s.policy permits i (named e)))) (is_closed s v permits i (named e)) c.1)
 
   -- ---- one depth
 
@@ -282,12 +380,12 @@ module _ (s : Site) (v : Views) (permits : List Permit) (i : ℕ) (j : Pairs) (s
       (λ t. let e = eqb-true (64 - a) b t in eq-eqb a (64 - b) (omega (arith, e, ha, hb)))
       (λ t. let e = eqb-true a (64 - b) t in eq-eqb (64 - a) b (omega (arith, e, ha, hb)))
 
-  own_length : (n : ℕ) → n < length s.policy.nets → length_in s.policy (view_here s v permits i) n ≡ (net_of s.policy n).own.len
+  own_length : (n : ℕ) → n < length s.policy.nets → length_in s.policy here n ≡ (net_of s.policy n).own.len
   own_length n h = let w = kept.shown n h in ap (λ o. option_map_or (λ (q : Cidr). q.len) o 0) w.is ∙ w.length_is
 
   deep_is : (k : ℕ) (e : ℕ × ℕ) → k < 65 → IsIn e all → (shallow s.policy e == k) ≡ deep k e
   deep_is k e hk h =
-      let there = pair_there s v permits site given apart (named e) (in_map named e all h) in
+      let there = pair_there s (named e) (in_map named e all h) in
       let a = own_length e.0 there.src in
       let b = own_length e.1 there.dst in
       let x = (kept.shown e.0 there.src).short in
@@ -295,51 +393,49 @@ module _ (s : Site) (v : Views) (permits : List Permit) (i : ℕ) (j : Pairs) (s
       same_deep ((net_of s.policy e.0).own.len + (net_of s.policy e.1).own.len) k (omega (arith, x, y)) (omega (arith, hk))
       ∙ ap (λ (d : ℕ). d == 64 - k) (let f : (net_of s.policy e.0).own.len + (net_of s.policy e.1).own.len ≡ depth_of s v permits i (named e) = omega (arith, a, b) in f)
 
-  or_nothing : (b : Bool) → (b || false) ≡ b
-  or_nothing true = refl
-  or_nothing false = refl
-
-  seen_here : (e : ℕ × ℕ) → IsIn e all → is_seen s.policy (view_here s v permits i) (named e) ≡ true
+  seen_here : (e : ℕ × ℕ) → IsIn e all → is_seen s.policy here (named e) ≡ true
   seen_here e h =
-      let there = pair_there s v permits site given apart (named e) (in_map named e all h) in
+      let there = pair_there s (named e) (in_map named e all h) in
       and_from _ _ (ap is_some (kept.shown e.0 there.src).is) (ap is_some (kept.shown e.1 there.dst).is)
 
   need_is : (e : ℕ × ℕ) → IsIn e all → is_filled (block_for e) ≡ need e
-  need_is e h =
-      let filled = is_filled (block_for e) in
-      sym (ap (λ b. b && (filled || is_closed s v permits i (named e))) (seen_here e h)
-      ∙ (ap (λ b. filled || b) (not_closed (named e) (in_map named e all h)) ∙ or_nothing filled))
+  need_is e h = sym (ap (λ b. b && is_filled (block_for e)) (seen_here e h))
 
   and_assoc : (a b c : Bool) → (a && (b && c)) ≡ ((a && b) && c)
   and_assoc true b c = refl
   and_assoc false b c = refl
 
-  kept_at : (k : ℕ) → k < 65 → map (block_at j told) (bucket s.policy j told (path_row s j.pairs (length j.pairs) i) k) ≡ map block_for (filter (passes k) all)
+  abbrev with_shut : ℕ → ℕ × Bool
+  with_shut w = (w, shut w)
+
+  kept_at : (k : ℕ) → k < 65 → map (block_at j told) (bucket s.policy j told (told_closed s.policy here permits j told row) k) ≡ map block_for (filter (passes k) all)
   kept_at k hk =
       let count = length j.pairs in
       let X = numbers_below count in
       let P = pair_at j.pairs in
       let inside = λ (w : ℕ) (m : IsIn w X). below_count count w m in
-      ap (map (block_at j told))
-      (filter_twice (is_on_way s j.pairs i) (is_in_bucket s.policy j told k) X
-      ∙ filter_same (λ w. is_on_way s j.pairs i w && is_in_bucket s.policy j told k w) (λ w. passes k (P w)) X
+      ap (map (block_at j told)) (filter_map (is_in_bucket s.policy j told k) with_shut row)
+      ∙ (map_map (block_at j told) with_shut (filter (λ w. is_in_bucket s.policy j told k (with_shut w)) row)
+      ∙ (ap (map (λ w. block_at j told (with_shut w)))
+      (filter_twice (is_on_way s j.pairs i) (λ w. is_in_bucket s.policy j told k (with_shut w)) X
+      ∙ filter_same (λ w. is_on_way s j.pairs i w && is_in_bucket s.policy j told k (with_shut w)) (λ w. passes k (P w)) X
       (λ w m.
       let e = P w in
-      let here = (pair_wanted w (inside w m)).0 in
-      let filled : is_filled (block_at j told w) ≡ need e = ap is_filled (block_is w (inside w m)) ∙ need_is e here in
-      and_assoc (on e) (is_filled (block_at j told w)) (shallow s.policy e == k)
-      ∙ (ap (λ b. (on e && b) && (shallow s.policy e == k)) filled ∙ ap (λ b. (on e && need e) && b) (deep_is k e hk here))))
-      ∙ (map_same (block_at j told) (λ w. block_for (P w)) (filter (λ w. passes k (P w)) X) (λ w m. block_is w (inside w (from_filter (λ w. passes k (P w)) w X m).0))
+      let there = (pair_wanted w (inside w m)).0 in
+      let filled : is_filled (block_at j told (with_shut w)) ≡ need e = ap is_filled (block_is w (inside w m)) ∙ need_is e there in
+      and_assoc (on e) (is_filled (block_at j told (with_shut w))) (shallow s.policy e == k)
+      ∙ (ap (λ b. (on e && b) && (shallow s.policy e == k)) filled ∙ ap (λ b. (on e && need e) && b) (deep_is k e hk there))))
+      ∙ (map_same (λ w. block_at j told (with_shut w)) (λ w. block_for (P w)) (filter (λ w. passes k (P w)) X) (λ w m. block_is w (inside w (from_filter (λ w. passes k (P w)) w X m).0))
       ∙ (sym (map_map block_for P (filter (λ w. passes k (P w)) X))
       ∙ ap (map block_for)
       (sym (filter_map (passes k) P X)
-      ∙ (ap (filter (passes k)) (sym (fill_by_all P j.pairs count (0, 0) refl (λ n h. refl)) ∙ kept.pairs)
+      ∙ (ap (filter (passes k)) (sym (fill_by_all P j.pairs count (0, 0) refl (λ n h. refl)) ∙ kept.pairs.pairs)
       ∙ (filter_twice wanted (passes k) all
       ∙ filter_same (λ e. wanted e && passes k e) (passes k) all
-      (λ e m. same_truth (wanted e && passes k e) (passes k e) (λ t. (and_parts (wanted e) (passes k e) t).1) (λ t. and_from (wanted e) (passes k e) (passed_wanted k e m t) t)))))))
+      (λ e m. same_truth (wanted e && passes k e) (passes k e) (λ t. (and_parts (wanted e) (passes k e) t).1) (λ t. and_from (wanted e) (passes k e) (passed_wanted k e m t) t)))))))))
 
-  pub placed_is : placed s.policy j told (path_row s j.pairs (length j.pairs) i) ≡ placement s v permits i
+  pub placed_is : placed s.policy j told (told_closed s.policy here permits j told row) ≡ placement s v permits i
   placed_is =
-      flat_map_same (λ k. map (block_at j told) (bucket s.policy j told (path_row s j.pairs (length j.pairs) i) k))
+      flat_map_same (λ k. map (block_at j told) (bucket s.policy j told (told_closed s.policy here permits j told row) k))
       (λ k. filter (λ b. depth_of s v permits i b.pair == 64 - k) (filter (is_needed s v permits i) (map (block_of s v permits i) (pairs_on_path s i)))) (numbers_below 65)
       (λ k m. kept_at k (below_count 65 k m) ∙ sym (defined_at k))

@@ -6,6 +6,7 @@ use Rattle.std.proofs.lemmas.Bool.{false≢true, cases_lt, and_parts, and_from, 
 use Rattle.std.proofs.lemmas.List.{get_or_default}
 use Rattle.policy_model.specs.Lists.{numbers_below, is_nothing}
 use Rattle.policy_model.specs.Zones.{Site, zone_of}
+use Rattle.policy_model.specs.Tags.{Views}
 use Rattle.policy_model.specs.Walks.{allowed_walks}
 use Rattle.policy_model.specs.Permits.{Permit, has_replies}
 use Rattle.policy_model.specs.Blocks.{permit_at, no_permit}
@@ -18,8 +19,8 @@ use Rattle.rule_distribute.specs.Pairs.{IsBefore}
 use Rattle.rule_distribute.specs.Placed.{Pairs, row_at, HaveRows, ArePairsOf}
 use Rattle.rule_distribute.specs.Rows.{pair_at, ends_of, same_pair, belongs}
 use Rattle.rule_distribute.proofs.Rising.{contains_in, in_contains}
-use Rattle.rule_distribute.proofs.ZonePairs.{below_count}
-use Rattle.rule_distribute.proofs.NetPairs.{ends_there, listed, by}
+use Rattle.rule_distribute.proofs.Concerns.{below_count, joined_listed}
+use Rattle.rule_distribute.proofs.NetPairs.{ends_there, by}
 use Rattle.rule_distribute.proofs.Joining.{pairs_in_order}
 
 -- the permit goes between these networks, and has no path
@@ -40,7 +41,7 @@ filled : (xs : List ℕ) (x : ℕ) → IsIn x xs → not (is_nothing xs) ≡ tru
 filled [] x i = absurd i
 filled (y ∷ ys) x i = refl
 
-module _ (s : Site) (permits : List Permit) (j : Pairs) (given : ArePermits s.policy permits) (are : ArePairsOf s permits j) where
+module _ (s : Site) (v : Views) (permits : List Permit) (j : Pairs) (given : ArePermits s.policy permits) (are : ArePairsOf s v permits j) where
   record IsLackingFor (q : Permit) : Type 0 where
     pub place : ℕ
     pub below : place < length j.pairs
@@ -57,7 +58,7 @@ module _ (s : Site) (permits : List Permit) (j : Pairs) (given : ArePermits s.po
       let e : ℕ × ℕ = (q.src.net, q.dst.net) in
       let same : ((q.src.net == e.0) && (q.dst.net == e.1)) ≡ true = and_from (q.src.net == e.0) (q.dst.net == e.1) (eq-eqb q.src.net e.0 refl) (eq-eqb q.dst.net e.1 refl) in
       let joined = by s permits given q (record { src = e.0; dst = e.1 }) i (or_left _ _ same) in
-      let here = listed s permits given e ends.src ends.dst joined (not-true (from == to) p.0) in
+      let here = joined_listed s v permits e ends.src ends.dst joined (not-true (from == to) p.0) in
       let c = in_contains j.pairs e (subst (IsIn e) (sym are.pairs) here) in
       let is : ◌≡◌ {A = ℕ × ℕ} (pair_at j.pairs c.0) e = get_or_default j.pairs c.0 (0, 0) e c.1 ∙ c.2 in
       let d = in_contains permits q i in
@@ -100,23 +101,23 @@ module _ (s : Site) (permits : List Permit) (j : Pairs) (given : ArePermits s.po
       let b = and_parts (q.0.src.net == x) (q.0.dst.net == y) a.0 in
       let l = lacking_for q.0 q.1 a.1 in
       let u : (pair_at j.pairs l.place).0 ≡ x = ap (λ (z : ℕ × ℕ). z.0) l.is ∙ eqb-true q.0.src.net x b.0 in
-      let v : (pair_at j.pairs l.place).1 ≡ y = ap (λ (z : ℕ × ℕ). z.1) l.is ∙ eqb-true q.0.dst.net y b.1 in
+      let n : (pair_at j.pairs l.place).1 ≡ y = ap (λ (z : ℕ × ℕ). z.1) l.is ∙ eqb-true q.0.dst.net y b.1 in
       let s0 : (pair_at j.pairs first.place).0 ≡ e.0 = ap (λ (z : ℕ × ℕ). z.0) first.is in
       let s1 : (pair_at j.pairs first.place).1 ≡ e.1 = ap (λ (z : ℕ × ℕ). z.1) first.is in
       ⊎_elim (λ (lt : l.place < first.place). absurd (false≢true (sym (first.first l.place lt) ∙ l.lacks)))
       (λ (le : first.place ≤ l.place).
       ⊎_elim
       (λ (lt : first.place < l.place).
-      let before : IsBefore (pair_at j.pairs first.place) (pair_at j.pairs l.place) = pairs_in_order s permits j are first.place l.place (0, 0) lt l.below in (
+      let before : IsBefore (pair_at j.pairs first.place) (pair_at j.pairs l.place) = pairs_in_order s v permits j are first.place l.place (0, 0) lt l.below in (
         ⊎_elim (λ low g. let z : ⊥ = omega (arith, low, g, u, s0) in z) (λ low g. let f = low.0 in let z : ⊥ = omega (arith, f, g, u, s0) in z) before,
-        ⊎_elim (λ low g k. let z : ⊥ = omega (arith, low, g, u, s0) in z) (λ low g k. let f = low.1 in let z : ⊥ = omega (arith, f, k, v, s1) in z) before,
+        ⊎_elim (λ low g k. let z : ⊥ = omega (arith, low, g, u, s0) in z) (λ low g k. let f = low.1 in let z : ⊥ = omega (arith, f, k, n, s1) in z) before,
       ))
       (λ (back : l.place ≤ first.place).
       let same : first.place ≡ l.place = omega (arith, le, back) in
       let t0 : (pair_at j.pairs first.place).0 ≡ (pair_at j.pairs l.place).0 = ap (λ (n : ℕ). (pair_at j.pairs n).0) same in
       let t1 : (pair_at j.pairs first.place).1 ≡ (pair_at j.pairs l.place).1 = ap (λ (n : ℕ). (pair_at j.pairs n).1) same in (
         λ g. let z : ⊥ = omega (arith, g, u, s0, t0) in z,
-        λ g k. let z : ⊥ = omega (arith, k, v, s1, t1) in z,
+        λ g k. let z : ⊥ = omega (arith, k, n, s1, t1) in z,
       ))
       (cases_lt first.place l.place))
       (cases_lt l.place first.place)

@@ -7,3 +7,4 @@ pub mod Shown
 pub mod Lacking
 pub mod Distributed
 pub mod Concerned
+pub mod Nested

@@ -2,23 +2,28 @@ ghost use Rattle.std.specs.Prelude.{◌≡◌, ◌≤◌, ◌<◌, [], if◌then
 ghost use Rattle.policy_model.specs.Lists.{is_nothing};
 ghost use Rattle.topology.specs.View.{policy_of};
 ghost use Rattle.zone_graph.specs.Grouped.{row_items, IsGraphOf};
+ghost use Rattle.nat_view.specs.Views.{seen_of};
 ghost use Rattle.permit_set.specs.Shown.{permit_of};
 ghost use Rattle.rule_distribute.specs.Given.{site_with, ArePermits};
 ghost use Rattle.rule_distribute.specs.Placed.{row_at, ArePairsOf, block_at, is_filled as is_block_filled, shallow as shallow_of};
 ghost use Rattle.rule_distribute.specs.Rows.{pair_at};
 ghost use Rattle.rule_distribute.specs.Shown.{block_seen, pairs_seen};
 
-use crate::joined::net_pairs;
+use crate::concerned::concerned;
 use crate::pairs::Pair;
 use crate::rows::permit_rows;
+use nat_view::Views;
 use permit_set::{PairBlock, Permit};
 use spoc_base::{NetId, NoMemory, Row};
 use std::alloc::Global;
 use topology::Topo;
 use zone_graph::ZoneGraph;
 
-/// The pairs of networks that permits join, in order: with each the numbers of the permits from
-/// the first to the second, and of those of the way back that have replies.
+/// The place of a pair among those that are kept, and whether it is closed at an interface.
+pub(crate) type Place = (usize, bool);
+
+/// The pairs of networks on which what is placed depends, in order: with each the numbers of the
+/// permits from the first to the second, and of those of the way back that have replies.
 #[derive(Drop)]
 pub(crate) struct Joined {
     pub(crate) pairs: Vec<Pair>,
@@ -26,19 +31,22 @@ pub(crate) struct Joined {
     pub(crate) replied: Vec<Vec<u32>>,
 }
 
-/// The pairs that the permits join, with their permits.
+/// The pairs that the permits join, and those inside such a pair, with their permits.
 pub(crate) fn join(
     alloc: Global,
     topo: Topo<'_>,
     graph: &ZoneGraph,
+    views: &Views<'_>,
     permits: &[Permit],
 ) -> Result<Joined, NoMemory>
     requires graph { IsGraphOf (policy_of topo) graph.now }
+    requires policy { (seen_of views.now).policy ≡ policy_of topo }
+    requires zones { length (seen_of views.now).views.zones ≡ length graph.now.nets }
     requires permits { ArePermits (policy_of topo) (map permit_of permits.now) }
     requires few { length permits.now < 4294967296 }
-    ensures { IfOk result (λ joined. ArePairsOf (site_with (policy_of topo.entry) graph.now) (map permit_of permits.now) (pairs_seen joined)) }
+    ensures { IfOk result (λ joined. ArePairsOf (site_with (policy_of topo.entry) graph.now) (seen_of views.now).views (map permit_of permits.now) (pairs_seen joined)) }
 {
-    let pairs = net_pairs(alloc, topo, graph, permits)?;
+    let pairs = concerned(alloc, topo, graph, views, permits)?;
     let forward = permit_rows(alloc, topo, graph, &pairs, permits, false)?;
     let replied = permit_rows(alloc, topo, graph, &pairs, permits, true)?;
     Ok(Joined {
@@ -73,22 +81,22 @@ pub(crate) fn block(
     alloc: Global,
     joined: &Joined,
     told: bool,
-    w: usize,
+    place: Place,
 ) -> Result<PairBlock, NoMemory>
-    requires below { w < length joined.now.pairs.items }
+    requires below { place.0 < length joined.now.pairs.items }
     requires forward { length joined.now.forward.items ≡ length joined.now.pairs.items }
     requires replied { length joined.now.replied.items ≡ length joined.now.pairs.items }
-    ensures { IfOk result (λ b. block_seen b ≡ block_at (pairs_seen joined.now) told w) }
+    ensures { IfOk result (λ b. block_seen b ≡ block_at (pairs_seen joined.now) told place) }
 {
-    let (src, dst) = nets_of(joined, w);
-    let forward = row_of(alloc, &joined.forward, w, true)?;
-    let mirrored = row_of(alloc, &joined.replied, w, told)?;
+    let (src, dst) = nets_of(joined, place.0);
+    let forward = row_of(alloc, &joined.forward, place.0, true)?;
+    let mirrored = row_of(alloc, &joined.replied, place.0, told)?;
     Ok(PairBlock {
         src: NetId(src),
         dst: NetId(dst),
         forward: Row::of(forward),
         mirrored: Row::of(mirrored),
-        closed: false,
+        closed: place.1,
     })
 }
 
@@ -116,17 +124,22 @@ pub(crate) fn has_permit(joined: &Joined, w: usize) -> bool
     !is_empty_row(&joined.forward, w)
 }
 
-/// Whether a permit stands in the block of a pair.
-pub(crate) fn is_filled(joined: &Joined, told: bool, w: usize) -> bool
-    requires below { w < length joined.now.pairs.items }
+// Whether replies to a permit of the way back are told.
+fn has_reply(joined: &Joined, told: bool, w: usize) -> bool
+    requires { w < length joined.now.replied.items }
+    ensures { result ≡ not (is_nothing (if told then row_at (pairs_seen joined.now).replied w else [])) }
+{
+    told && !is_empty_row(&joined.replied, w)
+}
+
+/// Whether a permit stands in the block of a pair, or the pair is closed.
+pub(crate) fn is_filled(joined: &Joined, told: bool, place: Place) -> bool
+    requires below { place.0 < length joined.now.pairs.items }
     requires forward { length joined.now.forward.items ≡ length joined.now.pairs.items }
     requires replied { length joined.now.replied.items ≡ length joined.now.pairs.items }
-    ensures { result ≡ is_block_filled (block_at (pairs_seen joined.now) told w) }
+    ensures { result ≡ is_block_filled (block_at (pairs_seen joined.now) told place) }
 {
-    if has_permit(joined, w) {
-        return true;
-    }
-    told && !is_empty_row(&joined.replied, w)
+    has_permit(joined, place.0) || has_reply(joined, told, place.0) || place.1
 }
 
 /// How far the networks of a pair lie from the deepest.

@@ -4,6 +4,7 @@
 #![tactic(auto)]
 
 mod blocks;
+mod closed;
 mod concerned;
 mod joined;
 mod managed;
@@ -12,6 +13,7 @@ mod paths;
 mod placement;
 mod places;
 mod rows;
+mod sight;
 mod unjoined;
 mod zones;
 

@@ -1,5 +1,5 @@
 ghost use Rattle.std.specs.Prelude.{◌≡◌, ◌<◌, ◌≤◌, ◌++◌, ◌∷◌, [], length, map, IfOk, IfErr, IfNone, IfSome};
-ghost use Rattle.policy_model.specs.Blocks.{zone_pairs, is_ios_at as runs_ios_at};
+ghost use Rattle.policy_model.specs.Blocks.{zone_pairs, placement};
 ghost use Rattle.policy_model.specs.FirstFault.{line_count, most_items};
 ghost use Rattle.topology.specs.First.{IsRefusalOf};
 ghost use Rattle.topology.specs.View.{policy_of, sources_of};
@@ -9,13 +9,15 @@ ghost use Rattle.permit_set.specs.Shown.{permit_of};
 ghost use Rattle.rule_distribute.specs.Distributed.{placed_seen, placed_at, IsClear, TellsWalk};
 ghost use Rattle.rule_distribute.specs.Given.{site_with, ArePermits};
 ghost use Rattle.rule_distribute.specs.Paths.{HaveMarks, path_row};
-ghost use Rattle.rule_distribute.specs.Placed.{ArePairsOf, HaveRows, placed};
+ghost use Rattle.rule_distribute.specs.Placed.{ArePairsOf};
 ghost use Rattle.rule_distribute.specs.Shown.{block_seen, pairs_seen};
 
 use crate::blocks::{Joined, join};
+use crate::closed::closed_places;
 use crate::managed::{is_ios_at, managed_ifaces};
 use crate::paths::{names_of, path_rows};
 use crate::placement::placement_of;
+use crate::sight::view_at;
 use crate::unjoined::{first_lacking, no_path_fault};
 use line_limit::lines_left;
 use nat_view::Views;
@@ -33,19 +35,28 @@ fn place_at(
     alloc: Global,
     topo: Topo<'_>,
     graph: &ZoneGraph,
+    views: &Views<'_>,
+    permits: &[Permit],
     joined: &Joined,
     rows: &[Vec<usize>],
     i: IfId,
 ) -> Result<Placement, NoMemory>
+    requires graph { IsGraphOf (policy_of topo) graph.now }
+    requires policy { (seen_of views.now).policy ≡ policy_of topo }
+    requires zones { length (seen_of views.now).views.zones ≡ length graph.now.nets }
+    requires permits { ArePermits (policy_of topo) (map permit_of permits.now) }
+    requires joined { ArePairsOf (site_with (policy_of topo) graph.now) (seen_of views.now).views (map permit_of permits.now) (pairs_seen joined.now) }
     requires iface { i.0 < length (policy_of topo).ifaces }
     requires each { length rows.now ≡ length (policy_of topo).ifaces }
-    requires rows { HaveRows (policy_of topo) (pairs_seen joined.now) }
     requires on_path { HasGroups (λ w. w) (row_items rows.now) (path_row (site_with (policy_of topo) graph.now) joined.now.pairs.items (length joined.now.pairs.items)) }
     ensures iface { IfOk result (λ place. place.iface.0 ≡ i.0) }
-    ensures blocks { IfOk result (λ place. map block_seen place.pairs ≡ placed (policy_of topo.entry) (pairs_seen joined.now) (runs_ios_at (policy_of topo.entry) i.0) (path_row (site_with (policy_of topo.entry) graph.now) joined.now.pairs.items (length joined.now.pairs.items) i.0)) }
+    ensures blocks { IfOk result (λ place. map block_seen place.pairs ≡ placement (site_with (policy_of topo.entry) graph.now) (seen_of views.now).views (map permit_of permits.now) i.0) }
 {
     let told = is_ios_at(topo, i);
-    placement_of(alloc, topo, joined, told, i, &rows[i.0 as usize])
+    let view = view_at(topo, graph, views, i);
+    let places = closed_places(alloc, view, permits, joined, told, &rows[i.0 as usize])?;
+    let place = placement_of(alloc, topo, joined, told, i, &places)?;
+    Ok(place)
 }
 
 // Puts what is placed at an interface behind the rest.
@@ -71,7 +82,7 @@ fn place_all(
     requires policy { (seen_of views.now).policy ≡ policy_of topo }
     requires zones { length (seen_of views.now).views.zones ≡ length graph.now.nets }
     requires permits { ArePermits (policy_of topo) (map permit_of permits.now) }
-    requires joined { ArePairsOf (site_with (policy_of topo) graph.now) (map permit_of permits.now) (pairs_seen joined.now) }
+    requires joined { ArePairsOf (site_with (policy_of topo) graph.now) (seen_of views.now).views (map permit_of permits.now) (pairs_seen joined.now) }
     requires each { length rows.now ≡ length (policy_of topo).ifaces }
     requires on_path { HasGroups (λ w. w) (row_items rows.now) (path_row (site_with (policy_of topo) graph.now) joined.now.pairs.items (length joined.now.pairs.items)) }
     ensures placed { IfOk result (λ done. IfSome done (λ places. map placed_seen places.items ≡ placed_at (site_with (policy_of topo.entry) graph.now) (seen_of views.now).views (map permit_of permits.now))) }
@@ -82,7 +93,7 @@ fn place_all(
     let mut places = Vec::new(alloc);
     let mut left = MOST_LINES;
     for i in &ifaces {
-        let place = place_at(alloc, topo, graph, joined, rows, *i)?;
+        let place = place_at(alloc, topo, graph, views, permits, joined, rows, *i)?;
         let Some(rest) = lines_left(alloc, topo, graph, views, permits, &place, left)? else {
             return Ok(None);
         };
@@ -95,7 +106,8 @@ fn place_all(
 }
 
 /// What is placed at each interface of a managed router, by number: for each pair of networks on
-/// path there, its permits, and those of the way back where replies have to pass.
+/// path there, its permits, those of the way back where replies have to pass, and whether all else
+/// between the networks is denied, as a line of a pair round them would pass it.
 ///
 /// A refusal tells the first permit between two zones that no walk joins, or that the lists have
 /// more than 4,000,000 lines together before they are optimised.
@@ -117,7 +129,7 @@ pub fn distribute(
     ensures clear { IfOk result (λ places. IsClear (site_with (policy_of topo.entry) graph.now) (seen_of views.now).views (map permit_of permits.now)) }
     ensures refused { IfErr result (IsRefusalOf (TellsWalk (sources_of topo.entry) (site_with (policy_of topo.entry) graph.now) (seen_of views.now).views (map permit_of permits.now))) }
 {
-    let joined = join(alloc, topo, graph, permits)?;
+    let joined = join(alloc, topo, graph, views, permits)?;
     let names = names_of(alloc, tables)?;
     if let Some(pair) = first_lacking(topo, graph, &joined, &names, tables) {
         return Err(Refusal::Policy(no_path_fault(topo, pair)));

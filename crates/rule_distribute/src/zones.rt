@@ -1,48 +1,32 @@
-ghost use Rattle.std.specs.Prelude.{◌≡◌, ◌<◌, ◌++◌, ℕ, length, map, flat_map, IfOk, OnOk, slice_index};
+ghost use Rattle.std.specs.Prelude.{◌≡◌, length, map, IfOk};
+ghost use Rattle.std.specs.List.{All};
 ghost use Rattle.policy_model.specs.Blocks.{zone_pairs as pairs_of_zones};
 ghost use Rattle.topology.specs.View.{policy_of};
 ghost use Rattle.zone_graph.specs.Grouped.{IsGraphOf};
 ghost use Rattle.nat_view.specs.Views.{seen_of};
 ghost use Rattle.permit_set.specs.Shown.{permit_of};
 ghost use Rattle.rule_distribute.specs.Given.{site_with, ArePermits};
-ghost use Rattle.rule_distribute.specs.Pairs.{both_ways};
+ghost use Rattle.rule_distribute.specs.Nested.{AreNets, zones_of};
 
+use crate::concerned::concerned;
 use crate::pairs::{Pair, once_each};
 use nat_view::Views;
 use permit_set::Permit;
-use spoc_base::{NoMemory, ZoneId};
+use spoc_base::{NetId, NoMemory, ZoneId};
 use std::alloc::Global;
 use topology::Topo;
 use zone_graph::ZoneGraph;
 
-// Puts two zones behind the others, both ways round, if they differ.
-fn push_both(pairs: &mut Vec<Pair>, from: u32, to: u32) -> Result<(), NoMemory>
-    ensures { OnOk result (pairs.new.items ≡ pairs.old.items ++ both_ways from to) }
-{
-    if from == to {
-        return Ok(());
-    }
-    pairs.push((from, to))?;
-    pairs.push((to, from))?;
-    Ok(())
-}
-
-// The zones of each permit between two zones, both ways round.
-fn joined_zones(
-    alloc: Global,
-    topo: Topo<'_>,
-    graph: &ZoneGraph,
-    permits: &[Permit],
-) -> Result<Vec<Pair>, NoMemory>
-    requires graph { IsGraphOf (policy_of topo) graph.now }
-    requires permits { ArePermits (policy_of topo) (map permit_of permits.now) }
-    ensures { IfOk result (λ v. v.items ≡ flat_map (λ q. both_ways (slice_index graph.now.zones q.src.net.0) (slice_index graph.now.zones q.dst.net.0)) permits.now) }
+// The zones of each pair of networks.
+fn zones_between(alloc: Global, graph: &ZoneGraph, nets: &[Pair]) -> Result<Vec<Pair>, NoMemory>
+    requires { All (AreNets (length graph.now.zones)) nets.now }
+    ensures { IfOk result (λ v. v.items ≡ map (zones_of graph.now.zones) nets.now) }
 {
     let mut pairs = Vec::new(alloc);
-    for q in permits {
-        let from = graph.zone_of(q.src.net);
-        let to = graph.zone_of(q.dst.net);
-        push_both(&mut pairs, from.0, to.0)?;
+    for pair in nets {
+        let from = graph.zone_of(NetId(pair.0));
+        let to = graph.zone_of(NetId(pair.1));
+        pairs.push((from.0, to.0))?;
     }
     Ok(pairs)
 }
@@ -59,7 +43,8 @@ fn as_zones(alloc: Global, pairs: &[Pair]) -> Result<Vec<(ZoneId, ZoneId)>, NoMe
 }
 
 /// The ordered pairs of zones whose walks the lists depend on, ascending and each once: those of
-/// the permits between different zones, both ways round.
+/// the networks that a permit joins, one way or the other, and of the pairs that lie inside such a
+/// pair as some zone sees them.
 pub fn zone_pairs(
     alloc: Global,
     topo: Topo<'_>,
@@ -73,7 +58,8 @@ pub fn zone_pairs(
     requires permits { ArePermits (policy_of topo) (map permit_of permits.now) }
     ensures { IfOk result (λ v. map (λ z. (z.0.0, z.1.0)) v.items ≡ pairs_of_zones (site_with (policy_of topo.entry) graph.now) (seen_of views.now).views (map permit_of permits.now)) }
 {
-    let mut pairs = joined_zones(alloc, topo, graph, permits)?;
+    let nets = concerned(alloc, topo, graph, views, permits)?;
+    let mut pairs = zones_between(alloc, graph, &nets)?;
     once_each(&mut pairs);
     let zones = as_zones(alloc, &pairs)?;
     Ok(zones)

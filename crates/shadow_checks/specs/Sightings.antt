@@ -1,14 +1,17 @@
 -- The first view in which an address lies at another network.
-use Rattle.std.specs.Prelude.{◌≡◌, ℕ, ◌<◌, length, IsTrue}
+use Rattle.std.specs.Prelude.{◌≡◌, ℕ, List, IsTrue}
+use Rattle.std.specs.List.{All}
 use Rattle.policy_laws.specs.Shaped.{IsShaped}
 use Rattle.policy_model.specs.Policy.{Policy}
-use Rattle.policy_model.specs.Tags.{Views, zone_view, router_view}
+use Rattle.policy_model.specs.Tags.{Views}
 use Rattle.policy_model.specs.Zones.{Site}
 use Rattle.policy_model.specs.FirstFault.{ViewPlace, view_at, place_order, is_lower, FaultCase, HostShadowed, IfaceShadowed}
 use Rattle.topology.specs.View.{policy_of}
 use Rattle.topology.specs.declared.topo.Topo.{Topo}
 use Rattle.zone_graph.specs.Grouped.{Graph}
+use Rattle.nat_view.specs.Fails.{place_seen}
 use Rattle.nat_view.specs.Seen.{Seen, has_view, AreAllApart}
+use Rattle.nat_view.specs.declared.fail.ViewAt.{ViewAt}
 use Rattle.shadow_checks.specs.Holders.{HasNoneHere, IsFirstHere}
 use Rattle.shadow_checks.specs.declared.here.Holder.{Holder}
 use Rattle.shadow_checks.specs.declared.here.Holder.TheVariants.{Host, Iface}
@@ -17,21 +20,15 @@ use Rattle.shadow_checks.specs.declared.here.Holder.TheVariants.{Host, Iface}
 abbrev pub site_of : Topo → Graph → Site
 site_of topo graph = record { policy = policy_of topo; zones = graph.zones }
 
--- The views are those of the policy, a zone's for each zone and a router's for each router, and no two networks have one prefix in one.
-pub record IsReady (p : Policy) (count : ℕ) (seen : Seen) : Type 0 where
+-- The views are those of the policy, and no two networks have one prefix in one.
+pub record IsReady (p : Policy) (seen : Seen) : Type 0 where
   pub policy : seen.policy ≡ p
-  pub zones : length seen.views.zones ≡ count
-  pub routers : length seen.views.routers ≡ length p.routers
   pub shaped : IsShaped p
   pub apart : AreAllApart p seen.views
 
--- in the view of no zone below a number an address lies at another network
-abbrev pub HaveNoZones : Policy → Views → ℕ → Type 0
-HaveNoZones p v count = (z : ℕ) → z < count → HasNoneHere p (zone_view v z)
-
--- in the view of no router below a number an address lies at another network
-abbrev pub HaveNoRouters : Policy → Views → ℕ → Type 0
-HaveNoRouters p v count = (r : ℕ) → r < count → HasNoneHere p (router_view v r)
+-- in the view of none of the places an address lies at another network
+abbrev pub HaveNoPlaces : Policy → Views → List ViewAt → Type 0
+HaveNoPlaces p v places = All (λ at. HasNoneHere p (view_at v (place_seen at))) places
 
 -- in no view an address lies at another network
 abbrev pub HasNone : Policy → Views → Type 0

@@ -50,7 +50,7 @@ pub fn refuse_shadowed(
     ensures clear { OnOk result ((m : Meaning) → m.site ≡ site_of topo.entry graph.now → m.views ≡ (seen_of views.now).views → HasNone m 6 6) }
     ensures refused { IfErr result (IsRefusalOf (λ fault. (m : Meaning) → m.site ≡ site_of topo.entry graph.now → m.views ≡ (seen_of views.now).views → TellsFirst (sources_of topo.entry) m 6 6 fault)) }
 {
-    if let Some(sighting) = first_sighting(alloc, topo, graph, views)? {
+    if let Some(sighting) = first_sighting(alloc, topo, views)? {
         return Err(Refusal::Policy(fault_of(topo, graph, sighting)));
     }
     Ok(())

@@ -1,11 +1,11 @@
 use Rattle.std.proofs.Common.{map}
 use Rattle.std.proofs.lemmas.Result.{IfOk-weaker, IfErr-weaker}
-use Rattle.topology.specs.View.{policy_of, sources_of}
+use Rattle.topology.specs.View.{policy_of}
 use Rattle.permit_set.specs.Shown.{permit_of}
 use Rattle.nat_view.specs.Views.{seen_of}
 use Rattle.rule_distribute.specs.Given.{site_with}
 use Rattle.policy_outcome.specs.Found.{meaning_in}
-use Rattle.policy_lists.proofs.Premises.{zones_sized, are_permits, are_apart}
+use Rattle.policy_lists.proofs.Premises.{zones_sized, are_permits}
 use Rattle.policy_lists.proofs.Interfaces.{placed_from_start}
 use Rattle.policy_lists.proofs.Refusals.{walks_clear, walks_refused}
 use Rattle.policy_lists.proofs.places.places_of.Goals as goal
@@ -16,9 +16,6 @@ distribute-requires-clause-zones c =
 
 pub distribute-requires-clause-permits : goal.distribute-requires-clause-permits
 distribute-requires-clause-permits c = are_permits (policy_of c.args.viewed.now.topo) c.args.viewed.now.topo.kept.sound c.requires.shaped (map permit_of c.args.viewed.now.permits.now) c.requires.found.expanded
-
-pub distribute-requires-clause-apart : goal.distribute-requires-clause-apart
-distribute-requires-clause-apart c = are_apart (policy_of c.args.viewed.now.topo) c.args.viewed.now.graph.now (seen_of c.args.viewed.now.views.now).views c.requires.later
 
 pub returns-clause-places : goal.returns-clause-places
 returns-clause-places c =
@@ -31,12 +28,12 @@ pub returns-clause-clear : goal.returns-clause-clear
 returns-clause-clear c =
     let found = c.requires.found in
     IfOk-weaker c.distribute.result _ _
-    (λ places. walks_clear (sources_of c.args.viewed.now.topo) (policy_of c.args.viewed.now.topo) c.args.viewed.now.topo.kept.sound c.requires.later (site_with (policy_of c.args.viewed.now.topo) c.args.viewed.now.graph.now) (seen_of c.args.viewed.now.views.now).views
+    (λ places. walks_clear c.args.viewed.now.topo (site_with (policy_of c.args.viewed.now.topo) c.args.viewed.now.graph.now) (seen_of c.args.viewed.now.views.now).views
     (map permit_of c.args.viewed.now.permits.now) found.zoned.site found.views found.expanded) c.distribute.ensures.clear
 
 pub returns-clause-refused : goal.returns-clause-refused
 returns-clause-refused c =
     let found = c.requires.found in
     IfErr-weaker c.distribute.result _ _
-    (walks_refused (sources_of c.args.viewed.now.topo) (policy_of c.args.viewed.now.topo) c.args.viewed.now.topo.kept.sound c.requires.later (site_with (policy_of c.args.viewed.now.topo) c.args.viewed.now.graph.now) (seen_of c.args.viewed.now.views.now).views
+    (walks_refused c.args.viewed.now.topo (site_with (policy_of c.args.viewed.now.topo) c.args.viewed.now.graph.now) (seen_of c.args.viewed.now.views.now).views
     (map permit_of c.args.viewed.now.permits.now) found.zoned.site found.views found.expanded) c.distribute.ensures.refused

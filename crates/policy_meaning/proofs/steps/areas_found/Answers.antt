@@ -24,10 +24,9 @@ returns-clause-are c =
 pub returns-clause-clear : goal.returns-clause-clear
 returns-clause-clear c =
     let m = meaning_in c.args.topo in
-    let pairs = pairs_in c.args.topo in
     let s = site_of c.args.topo c.args.graph.now in
-    both_ok c.areas.result (AreAreas s) (AreWhole s) (λ areas. outcome_for pairs m ≡ after_areas pairs m)
-    (λ areas its are. clear m 0 0 (split_case m) (after_areas pairs m) (split_first m c.args.topo.kept.sound) (none_split m (whole c.args.topo c.args.graph.now c.requires areas its are)))
+    both_ok c.areas.result (AreAreas s) (AreWhole s) (λ areas. outcome_for m ≡ after_areas m)
+    (λ areas its are. clear m 0 0 (split_case m) (after_areas m) (split_first m c.args.topo.kept.sound) (none_split m (whole c.args.topo c.args.graph.now c.requires areas its are)))
     c.areas.ensures.areas c.areas.ensures.whole
 
 pub returns-clause-refused : goal.returns-clause-refused
@@ -35,6 +34,6 @@ returns-clause-refused c =
     let m = meaning_in c.args.topo in
     let pairs = pairs_in c.args.topo in
     let tells = TellsSplit c.args.topo (site_of c.args.topo c.args.graph.now) in
-    IfErr-weaker c.areas.result (IsRefusalOf tells) (IsRefusalOf (λ fault. outcome_for pairs m ≡ Err (fault_line pairs fault)))
-    (refused c.told_lines_are_those.ensures tells (sources_of c.args.topo) m 0 0 (split_case m) (after_areas pairs m) (split_first m c.args.topo.kept.sound) (λ fault h. h m (sym c.requires.site) (areas_found m.site)))
+    IfErr-weaker c.areas.result (IsRefusalOf tells) (IsRefusalOf (λ fault. outcome_for m ≡ Err (fault_line pairs fault)))
+    (refused c.told_lines_are_those.ensures tells (sources_of c.args.topo) m 0 0 (split_case m) (after_areas m) (split_first m c.args.topo.kept.sound) (λ fault h. h m (sym c.requires.site) (areas_found m.site)))
     c.areas.ensures.split

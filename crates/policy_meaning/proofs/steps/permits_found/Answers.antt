@@ -11,7 +11,7 @@ use Rattle.permit_set.specs.Shown.{permit_of}
 use Rattle.service_rules.specs.Faults.{AreClear, TellsRule}
 use Rattle.fault_laws.proofs.EachRow.{services_first}
 use Rattle.fault_text.specs.Texts.{fault_line}
-use Rattle.policy_outcome.specs.Outcome.{service_case, after_tags, after_services}
+use Rattle.policy_outcome.specs.Outcome.{service_case, after_views, after_services}
 use Rattle.policy_outcome.specs.Found.{meaning_in, pairs_in}
 use Rattle.policy_meaning.proofs.Refusals.{refused, clear, few}
 use Rattle.policy_meaning.proofs.Tables.{both_ok, same_permits}
@@ -34,10 +34,9 @@ returns-clause-few c =
 pub returns-clause-clear : goal.returns-clause-clear
 returns-clause-clear c =
     let m = meaning_in c.args.topo in
-    let pairs = pairs_in c.args.topo in
     let s = site_of c.args.topo c.args.graph.now in
-    IfOk-weaker c.expand.result (λ found. AreClear s c.args.areas.now) (λ found. after_tags pairs m ≡ after_services pairs m)
-    (λ found none. clear m 7 8 (service_case m) (after_services pairs m) (services_first m c.args.topo.kept.sound) (none m (sym c.requires.zoned.site) (sym c.requires.are)))
+    IfOk-weaker c.expand.result (λ found. AreClear s c.args.areas.now) (λ found. after_views m ≡ after_services m)
+    (λ found none. clear m 7 8 (service_case m) (after_services m) (services_first m c.args.topo.kept.sound) (none m (sym c.requires.zoned.site) (sym c.requires.are)))
     c.expand.ensures.clear
 
 pub returns-clause-refused : goal.returns-clause-refused
@@ -45,6 +44,6 @@ returns-clause-refused c =
     let m = meaning_in c.args.topo in
     let pairs = pairs_in c.args.topo in
     let tells = TellsRule (sources_of c.args.topo) (site_of c.args.topo c.args.graph.now) c.args.areas.now in
-    IfErr-weaker c.expand.result (IsRefusalOf tells) (IsRefusalOf (λ fault. after_tags pairs m ≡ Err (fault_line pairs fault)))
-    (refused c.told_lines_are_those.ensures tells (sources_of c.args.topo) m 7 8 (service_case m) (after_services pairs m) (services_first m c.args.topo.kept.sound) (λ fault h. h m (sym c.requires.zoned.site) (sym c.requires.are)))
+    IfErr-weaker c.expand.result (IsRefusalOf tells) (IsRefusalOf (λ fault. after_views m ≡ Err (fault_line pairs fault)))
+    (refused c.told_lines_are_those.ensures tells (sources_of c.args.topo) m 7 8 (service_case m) (after_services m) (services_first m c.args.topo.kept.sound) (λ fault h. h m (sym c.requires.zoned.site) (sym c.requires.are)))
     c.expand.ensures.refused

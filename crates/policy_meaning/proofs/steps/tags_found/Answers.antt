@@ -24,10 +24,9 @@ returns-clause-are c =
 pub returns-clause-clear : goal.returns-clause-clear
 returns-clause-clear c =
     let m = meaning_in c.args.topo in
-    let pairs = pairs_in c.args.topo in
     let s = site_of c.args.topo c.args.graph.now in
-    IfOk-weaker c.domains.result (λ (tags : Views). (m : Meaning) → m.site ≡ s → AreViews m.site m.views → HasNone m 1 3) (λ tags. after_areas pairs m ≡ after_tags pairs m)
-    (λ tags h. clear m 1 3 (tag_case m) (after_tags pairs m) (tags_first m c.args.topo.kept.sound) (h m (sym c.requires.site) (views_found m.site)))
+    IfOk-weaker c.domains.result (λ (tags : Views). (m : Meaning) → m.site ≡ s → AreViews m.site m.views → HasNone m 1 3) (λ tags. after_areas m ≡ after_tags m)
+    (λ tags h. clear m 1 3 (tag_case m) (after_tags m) (tags_first m c.args.topo.kept.sound) (h m (sym c.requires.site) (views_found m.site)))
     c.domains.ensures.clear
 
 pub returns-clause-refused : goal.returns-clause-refused
@@ -36,6 +35,6 @@ returns-clause-refused c =
     let pairs = pairs_in c.args.topo in
     let s = site_of c.args.topo c.args.graph.now in
     let tells = λ (fault : Fault). (m : Meaning) → m.site ≡ s → AreViews m.site m.views → TellsFirst (sources_of c.args.topo) m 1 3 fault in
-    IfErr-weaker c.domains.result (IsRefusalOf tells) (IsRefusalOf (λ fault. after_areas pairs m ≡ Err (fault_line pairs fault)))
-    (refused c.told_lines_are_those.ensures tells (sources_of c.args.topo) m 1 3 (tag_case m) (after_tags pairs m) (tags_first m c.args.topo.kept.sound) (λ fault h. h m (sym c.requires.site) (views_found m.site)))
+    IfErr-weaker c.domains.result (IsRefusalOf tells) (IsRefusalOf (λ fault. after_areas m ≡ Err (fault_line pairs fault)))
+    (refused c.told_lines_are_those.ensures tells (sources_of c.args.topo) m 1 3 (tag_case m) (after_tags m) (tags_first m c.args.topo.kept.sound) (λ fault h. h m (sym c.requires.site) (views_found m.site)))
     c.domains.ensures.refused

@@ -2,6 +2,7 @@ use Rattle.std.proofs.Common.{◌∙◌, length, map, sym, subst}
 use Rattle.std.proofs.lemmas.List.{length-map}
 use Rattle.topology.specs.View.{policy_of}
 use Rattle.zone_graph.specs.Grouped.{row_items}
+use Rattle.nat_view.specs.Views.{seen_of}
 use Rattle.permit_set.specs.Shown.{permit_of}
 use Rattle.rule_distribute.specs.Given.{site_with}
 use Rattle.rule_distribute.specs.Rows.{HasAll}
@@ -19,7 +20,7 @@ permit_rows-requires-2-clause-all c =
 pub returns : goal.returns
 returns c =
     let permits = c.args.permits.now in
-    are_pairs (site_with (policy_of c.args.topo) c.args.graph.now) (map permit_of permits) c.in_ok-pairs.pairs.items c.deref.result.now c.deref-2.result.now (row_items c.in_ok-forward.forward.items)
+    are_pairs (site_with (policy_of c.args.topo) c.args.graph.now) (seen_of c.args.views.now).views (map permit_of permits) c.in_ok-pairs.pairs.items c.deref.result.now c.deref-2.result.now (row_items c.in_ok-forward.forward.items)
     (row_items c.in_ok-replied.replied.items) (length permits) (sym (length-map permits permit_of)) (c.in_ok-pairs.ensures {u = tt}).pairs c.deref.ensures.value c.deref-2.ensures.value
     (length-map c.in_ok-forward.forward.items (λ r. r.items) ∙ (c.in_ok-forward.ensures {u = tt}).each)
     (length-map c.in_ok-replied.replied.items (λ r. r.items) ∙ (c.in_ok-replied.ensures {u = tt}).each) (c.in_ok-forward.ensures {u = tt}).groups (c.in_ok-replied.ensures {u = tt}).groups

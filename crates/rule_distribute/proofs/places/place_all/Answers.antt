@@ -9,10 +9,7 @@ use Rattle.permit_set.specs.Shown.{permit_of}
 use Rattle.line_limit.specs.Left.{left_after}
 use Rattle.rule_distribute.specs.Distributed.{placed_seen}
 use Rattle.rule_distribute.specs.Given.{site_with}
-use Rattle.rule_distribute.specs.Shown.{block_seen, pairs_seen}
-use Rattle.rule_distribute.proofs.Joining.{have_rows}
-use Rattle.rule_distribute.proofs.Limited.{id_below, placed_there, are_known, tuple_same, one_placed, one_taken, none_left, all_placed, all_taken, lines_are}
-use Rattle.rule_distribute.proofs.Sighted.{shown}
+use Rattle.rule_distribute.proofs.Limited.{id_below, are_known, tuple_same, one_placed, one_taken, none_left, all_placed, all_taken, lines_are}
 use Rattle.rule_distribute.proofs.places.place_all.Goals as goal
 
 pub place_at-requires-clause-iface : goal.place_at-requires-clause-iface
@@ -23,9 +20,6 @@ place_at-requires-clause-iface c =
     let x = slice_index_or items k none in
     let below : k < length items = omega (arith, c.loop-i-test.true) in
     id_below (policy_of c.args.topo) items k x (ap (map (λ (i : IfId). i.0)) c.deref-i-items.ensures.value ∙ c.in_ok-ifaces.ensures {u = tt}) below (get_or_default items k none x below)
-
-pub place_at-requires-clause-rows : goal.place_at-requires-clause-rows
-place_at-requires-clause-rows c = have_rows (site_with (policy_of c.args.topo) c.args.graph.now) (map permit_of c.args.permits.now) (pairs_seen c.args.joined.now) c.requires.joined
 
 pub lines_left-requires-clause-permits : goal.lines_left-requires-clause-permits
 lines_left-requires-clause-permits c = are_known (policy_of c.args.topo) (map permit_of c.args.permits.now) c.requires.permits
@@ -43,19 +37,10 @@ lines_left-requires-clause-iface c =
 
 pub lines_left-requires-clause-place : goal.lines_left-requires-clause-place
 lines_left-requires-clause-place c =
-    let p = policy_of c.args.topo in
-    let s = site_with p c.args.graph.now in
+    let s = site_with (policy_of c.args.topo) c.args.graph.now in
     let v = (seen_of c.args.views.now).views in
     let permits = map permit_of c.args.permits.now in
-    let items = c.deref-i-items.result.now in
-    let k = c.loop-i.i-index in
-    let none : IfId = record { 0 = 0 } in
-    let x = slice_index_or items k none in
-    let below : k < length items = omega (arith, c.loop-i-test.true) in
-    let there = id_below p items k x (ap (map (λ (i : IfId). i.0)) c.deref-i-items.ensures.value ∙ c.in_ok-ifaces.ensures {u = tt}) below (get_or_default items k none x below) in
-    placed_there s v permits x.0 (pairs_seen c.args.joined.now) (map block_seen c.in_ok-place.place.pairs) c.requires.graph.table c.requires.permits c.requires.apart c.requires.joined (shown c.args.topo)
-    c.args.topo.kept.sound.numbered there (c.in_ok-place.ensures {u = tt}).blocks
-    ∙ ap (placement s v permits) (sym (c.in_ok-place.ensures {u = tt}).iface)
+    (c.in_ok-place.ensures {u = tt}).blocks ∙ ap (placement s v permits) (sym (c.in_ok-place.ensures {u = tt}).iface)
 
 pub returns-in_default-clause-over : goal.returns-in_default-clause-over
 returns-in_default-clause-over c =
@@ -75,8 +60,7 @@ returns-in_default-clause-over c =
 
 pub loop-i-preserved : goal.loop-i-preserved
 loop-i-preserved c =
-    let p = policy_of c.args.topo in
-    let s = site_with p c.args.graph.now in
+    let s = site_with (policy_of c.args.topo) c.args.graph.now in
     let v = (seen_of c.args.views.now).views in
     let permits = map permit_of c.args.permits.now in
     let items = c.deref-i-items.result.now in
@@ -85,10 +69,8 @@ loop-i-preserved c =
     let x = slice_index_or items k none in
     let below : k < length items = omega (arith, c.loop-i-test.true) in
     let is = get_or_default items k none x below in
-    let there = id_below p items k x (ap (map (λ (i : IfId). i.0)) c.deref-i-items.ensures.value ∙ c.in_ok-ifaces.ensures {u = tt}) below is in
     let iface = (c.in_ok-place.ensures {u = tt}).iface in
-    let blocks = placed_there s v permits x.0 (pairs_seen c.args.joined.now) (map block_seen c.in_ok-place.place.pairs) c.requires.graph.table c.requires.permits c.requires.apart c.requires.joined (shown c.args.topo)
-    c.args.topo.kept.sound.numbered there (c.in_ok-place.ensures {u = tt}).blocks in
+    let blocks = (c.in_ok-place.ensures {u = tt}).blocks in
     let seen : ◌≡◌ {A = ℕ × List Block} (placed_seen c.in_ok-place.place) (x.0, placement s v permits x.0) = tuple_same iface blocks in
     record {
       placed = ap (map placed_seen) (c.in-Ok.ensures {u = tt}) ∙ one_placed s v permits placed_seen c.loop-i.places.items c.in_ok-place.place items k x below is seen c.loop-i.invariant.placed;

@@ -15,7 +15,7 @@ use Rattle.shadow_checks.proofs.Telling.{at_meaning, no_fault, tells_first}
 use Rattle.shadow_checks.proofs.refuse.refuse_shadowed.Goals as goal
 
 pub first_sighting-requires : goal.first_sighting-requires
-first_sighting-requires c = record { policy = c.requires.policy; zones = c.requires.zones; routers = c.requires.routers; shaped = c.requires.shaped; apart = c.requires.apart }
+first_sighting-requires c = record { policy = c.requires.policy; shaped = c.requires.shaped; apart = c.requires.apart }
 
 pub fault_of-requires-clause-place : goal.fault_of-requires-clause-place
 fault_of-requires-clause-place c =
