@@ -1,3 +1,4 @@
 pub mod Listed
 pub mod Untold
+pub mod Direct
 pub mod Deciding
