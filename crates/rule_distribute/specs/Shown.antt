@@ -1,4 +1,4 @@
--- What clauses see of blocks, and of the pairs that permits join.
+-- What clauses see of blocks, and of the pairs that are kept.
 use Rattle.policy_model.specs.Blocks as plain
 use Rattle.zone_graph.specs.Grouped.{row_items}
 use Rattle.permit_set.specs.declared.block.PairBlock.{PairBlock}
