@@ -1,15 +1,15 @@
 -- One step of a search, after others.
-use Rattle.std.proofs.Common.{◌≡◌, ◌≢◌, ℕ, ◌<◌, Bool, true, false, not, List, ◌∷◌, ◌++◌, length, sym, ap, subst, ◌∙◌, ⊎_elim}
+use Rattle.std.proofs.Common.{◌≡◌, ◌≢◌, ℕ, ◌<◌, Bool, true, false, not, List, [], ◌∷◌, length, refl, sym, ap, subst, ◌∙◌, ⊎_elim}
 use Rattle.std.specs.Prelude.{◌==◌}
-use Rattle.std.proofs.lemmas.Bool.{eqb-true, not_from_false}
+use Rattle.std.proofs.lemmas.Bool.{eqb-true, eq-eqb, not_from_false, or_left}
 use Rattle.policy_model.specs.Paths.{Crossing}
 use Rattle.policy_model.specs.Zones.{Site, zone_at}
 use Rattle.policy_model.specs.Walks.{all_crossings}
-use Rattle.path_walk.specs.Search.{Branch, AreOpen, branched, to_come, most_of}
+use Rattle.path_walk.specs.Search.{Branch, AreOpen, branched, to_come, most_of, weight}
 use Rattle.path_walk.specs.Next.{IsNext}
 use Rattle.path_walk.specs.Shut.{AreOpened, AreLeft}
 use Rattle.path_walk.proofs.Fronts.{refused}
-use Rattle.path_walk.proofs.Open.{weight, GoesOnBy, IsGoing, step_there, step_on, step_nowhere}
+use Rattle.path_walk.proofs.Open.{GoesOnBy, IsGoing, step_there, step_on, step_nowhere}
 
 pub zones_differ : (from to : ℕ) → (from ≢ to) → not (from == to) ≡ true
 zones_differ from to other = not_from_false (from == to) (refused (from == to) (λ e. other (eqb-true from to e)))
@@ -39,10 +39,10 @@ pub next_on : (s : Site) (from to : ℕ) (old : List Crossing) (old_open : List 
     HasGoneOn s from to old old_open branches new new_open
 next_on s from to old old_open path branches b rest found new new_open going popped stepped is =
     let kept = subst (λ (l : List Branch). AreOpen s from path (length path) l) popped going.kept in
-    let opened : AreOpened s from to new rest new_open = subst (λ (x : Bool). AreLeft s from to x new rest new_open) is stepped.opened in
+    let opened : AreOpened s from (to ∷ []) new rest new_open = subst (λ (x : Bool). AreLeft s from to x new rest new_open) is stepped.opened in
     let g : GoesOnBy s from to path (b ∷ rest) new new_open =
     ⊎_elim (λ e. step_on s from to path new b rest new_open kept stepped.moved (sym stepped.there ∙ is) e)
-    (λ e. step_nowhere s from to path new b rest new_open kept stepped.moved e.0 e.1) opened in
+    (λ e. step_nowhere s from to path new b rest new_open kept stepped.moved (e.0 to (or_left (to == to) false (eq-eqb to to refl))) e.1) opened in
     record {
       going = record { kept = g.kept; walks = going.walks ∙ (ap (λ (l : List Branch). to_come s from to path l) popped ∙ g.walks) };
       less = subst (λ (l : List Branch). weight (most_of s) (length (all_crossings s)) new_open < weight (most_of s) (length (all_crossings s)) l) (sym popped) g.less;

@@ -1,6 +1,7 @@
 mod Ascending
 mod Standing
 mod Bridges
+mod Ends
 mod Fronts
 mod Going
 mod Nowhere
@@ -11,6 +12,7 @@ mod Prefixes
 mod Pushing
 mod Retracing
 mod Rows
+mod Runs
 mod Starts
 mod Tree
 mod FirstWalks

@@ -1,13 +1,15 @@
 -- Pairs that are put in one by one, those of one walk after the other.
-use Rattle.std.proofs.Common.{◌≡◌, ◌≢◌, ℕ, zero, suc, ◌+◌, ◌-◌, ◌<◌, ◌≤◌, true, false, List, [], ◌∷◌, ◌++◌, length, take, get_or, refl, sym, ap, subst, ◌∙◌, arith}
-use Rattle.std.specs.Prelude.{flat_map}
+use Rattle.std.proofs.Common.{◌≡◌, ◌≢◌, ℕ, zero, suc, ◌+◌, ◌-◌, ◌<◌, ◌≤◌, Bool, true, false, cond, List, [], ◌∷◌, ◌++◌, length, take, get_or, refl, sym, ap, subst, ◌∙◌, arith}
+use Rattle.std.specs.Prelude.{◌==◌, flat_map}
 use Rattle.std.proofs.lemmas.List.{map-append, take_more}
 use Rattle.std.specs.BTreeSet.{insert_key}
+use Rattle.policy_model.specs.Lists.{has}
 use Rattle.policy_model.specs.Paths.{Crossing}
 use Rattle.policy_model.specs.Zones.{Site}
 use Rattle.policy_model.specs.Walks.{allowed_walks}
 use Rattle.path_walk.specs.Search.{Branch, AreOpen, branches_of, to_come}
 use Rattle.path_walk.specs.Next.{IsNext}
+use Rattle.path_walk.specs.Swept.{IsSwept}
 use Rattle.path_walk.specs.Pairs.{pair_order, with_pairs, crossing_pairs, links_after, link_pairs}
 use Rattle.path_walk.specs.Seen.{step_seen, path_seen}
 use Rattle.path_walk.specs.declared.step.Step.{Step}
@@ -46,6 +48,29 @@ pub marking_last : (s : Site) (from to : ℕ) (pairs : List Crossing → List (�
     IsMarking s from to pairs old keys path branches → IsNext s from to path branches false new new_open → keys ≡ with_pairs old (flat_map pairs (allowed_walks s from to))
 marking_last s from to pairs old keys path new branches new_open m n =
     sym (ap (λ (ws : List (List Crossing)). with_pairs keys (flat_map pairs ws)) n.walks) ∙ m.rest
+
+-- the same of a search for the walks to several zones
+
+pub marking_swept : (s : Site) (from to : ℕ) (pairs : List Crossing → List (ℕ × ℕ)) (wanted : List ℕ) (old keys more : List (ℕ × ℕ)) (path new : List Crossing) (branches new_open : List Branch) (z : ℕ) →
+    IsMarking s from to pairs old keys path branches → IsSwept s from wanted path branches z new new_open → has wanted to ≡ true → from ≢ to →
+    more ≡ cond (z == to) (with_pairs keys (pairs new)) keys → IsMarking s from to pairs old more new new_open
+marking_swept s from to pairs wanted old keys more path new branches new_open z m swept w other e = by (z == to) (swept.walks to w other) e
+  where
+    rest : List (ℕ × ℕ)
+    rest = flat_map pairs (to_come s from to new new_open)
+
+    by : (t : Bool) → to_come s from to path branches ≡ cond t (new ∷ []) [] ++ to_come s from to new new_open → more ≡ cond t (with_pairs keys (pairs new)) keys → IsMarking s from to pairs old more new new_open
+    by true walks is =
+        record {
+          rest = ap (λ (l : List (ℕ × ℕ)). with_pairs l rest) is ∙ (sym (with_more keys (pairs new) rest)
+              ∙ (sym (ap (λ (ws : List (List Crossing)). with_pairs keys (flat_map pairs ws)) walks) ∙ m.rest));
+        }
+    by false walks is =
+        record { rest = ap (λ (l : List (ℕ × ℕ)). with_pairs l rest) is ∙ (sym (ap (λ (ws : List (List Crossing)). with_pairs keys (flat_map pairs ws)) walks) ∙ m.rest) }
+
+pub marking_done : (s : Site) (from to : ℕ) (pairs : List Crossing → List (ℕ × ℕ)) (old keys : List (ℕ × ℕ)) (path : List Crossing) (branches : List Branch) →
+    IsMarking s from to pairs old keys path branches → branches ≡ [] → keys ≡ with_pairs old (flat_map pairs (allowed_walks s from to))
+marking_done s from to pairs old keys path branches m e = sym (ap (λ (l : List Branch). with_pairs keys (flat_map pairs (to_come s from to path l))) e) ∙ m.rest
 
 -- where there is no walk
 pub marking_none : (s : Site) (from to : ℕ) (pairs : List Crossing → List (ℕ × ℕ)) (keys : List (ℕ × ℕ)) → allowed_walks s from to ≡ [] → keys ≡ with_pairs keys (flat_map pairs (allowed_walks s from to))

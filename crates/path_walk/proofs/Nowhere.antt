@@ -3,14 +3,16 @@ use Rattle.std.proofs.Common.{◌≡◌, ℕ, ◌<◌, refl, inl, inr, Bool, tru
 use Rattle.std.specs.Prelude.{◌==◌, nat_lt}
 use Rattle.std.specs.List.{list_all}
 use Rattle.std.proofs.lemmas.Bool.{and_parts, or_cases, or_left, or_right, eqb-true, eq-eqb, ltb-true, false≢true, not-true}
+use Rattle.spoc_base.specs.declared.ids.ZoneId.{ZoneId}
 use Rattle.policy_model.specs.Lists.{has, are_distinct, lists_up_to}
 use Rattle.policy_model.specs.Policy.{router_at, is_managed, all_ifaces}
 use Rattle.policy_model.specs.Paths.{Crossing, leads, places_on, routers_on, crosses_managed}
 use Rattle.policy_model.specs.Zones.{Site, zone_at}
 use Rattle.policy_model.specs.Walks.{is_crossing, is_allowed_walk, all_crossings}
 use Rattle.policy_model.proofs.AllWalks.{IsIn, in_numbers, in_map, parts_of}
-use Rattle.path_walk.specs.Search.{end_of, walks_on}
+use Rattle.path_walk.specs.Search.{end_of}
 use Rattle.path_walk.specs.Shut.{is_marked, keeps_marks, keep_marks, LeadsNowhere}
+use Rattle.path_walk.specs.Swept.{numbers_of}
 use Rattle.path_walk.proofs.Fronts.{refused, places_append, distinct_apart, leads_parts}
 use Rattle.path_walk.proofs.Rows.{filter_none}
 
@@ -31,6 +33,13 @@ there : (xs : List ℕ) (x : ℕ) → IsIn x xs → has xs x ≡ true
 there [] x h = absurd h
 there (y ∷ ys) x (inl e) = or_left (y == x) (has ys x) (eq-eqb y x (sym e))
 there (y ∷ ys) x (inr h) = or_right (y == x) (has ys x) (there ys x h)
+
+-- none of the zones is marked, so the one isn't
+pub none_of : (marks : List Bool) (wanted : List ZoneId) (to : ℕ) → list_all (λ z. not (is_marked marks z.0)) wanted ≡ true → has (numbers_of wanted) to ≡ true → is_marked marks to ≡ false
+none_of marks [] to h w = absurd (false≢true w)
+none_of marks (z ∷ wanted) to h w =
+    let a = and_parts (not (is_marked marks z.0)) (list_all (λ y. not (is_marked marks y.0)) wanted) h in
+    ⊎_elim (λ e. sym (ap (is_marked marks) (eqb-true z.0 to e)) ∙ not-true (is_marked marks z.0) a.0) (λ e. none_of marks wanted to a.1 e) (or_cases (z.0 == to) (has (numbers_of wanted) to) w)
 
 -- both interfaces of a crossing are there, and its router is one
 pub record IsThrough (s : Site) (c : Crossing) : Type 0 where

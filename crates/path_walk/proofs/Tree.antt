@@ -45,6 +45,13 @@ arrived s from to (suc n) path other h e =
     ∙ (ap (λ (b : Bool). cond b (path ∷ rest) rest) (walk_by s from to path other h e)
     ∙ ap (λ (l : List (List Crossing)). path ∷ l) (none_longer s from to n path xs (λ c more. walk_stops s from to path c more e)))
 
+-- none that goes on from there
+pub none_past : (s : Site) (from to n : ℕ) (path : List Crossing) (c : Crossing) → end_of s from path ≡ to → walks_on s from to n (path ++ c ∷ []) ≡ []
+none_past s from to n path c e =
+    filter_none (is_allowed_walk s from to) (λ more. (path ++ c ∷ []) ++ more) (lists_up_to n (all_crossings s))
+    (λ more. refused (is_allowed_walk s from to ((path ++ c ∷ []) ++ more))
+    (λ h. walk_stops s from to path c more e (subst (λ (l : List Crossing). is_allowed_walk s from to l ≡ true) (append_assoc path (c ∷ []) more) h)))
+
 not_there : (s : Site) (from to : ℕ) (path : List Crossing) → (end_of s from path ≡ to → ⊥) → is_allowed_walk s from to (path ++ []) ≡ false
 not_there s from to path away = refused (is_allowed_walk s from to (path ++ [])) (λ h. away (walk_ends s from to path (subst (λ (l : List Crossing). is_allowed_walk s from to l ≡ true) (append-nil path) h)))
 

@@ -5,3 +5,5 @@ pub mod Search
 pub mod Seen
 pub mod Shut
 pub mod Stack
+pub mod Swept
+pub mod Tables

@@ -1,5 +1,5 @@
 -- What a search for allowed walks goes by: paths that such walks may begin with.
-use Rattle.std.specs.Prelude.{ℕ, ◌+◌, ◌-◌, ◌≤◌, Bool, not, ◌&&◌, ◌==◌, List, [], ◌∷◌, ◌++◌, length, map, filter, flat_map, take, IsTrue}
+use Rattle.std.specs.Prelude.{ℕ, zero, suc, ◌+◌, ◌-◌, ◌*◌, ◌≤◌, Bool, not, ◌&&◌, ◌==◌, List, [], ◌∷◌, ◌++◌, length, map, filter, flat_map, take, IsTrue}
 use Rattle.std.specs.List.{list_all}
 use Rattle.policy_model.specs.Lists.{has, are_distinct, lists_up_to}
 use Rattle.policy_model.specs.Policy.{router_at, is_managed, all_ifaces, managed_routers}
@@ -72,3 +72,13 @@ walks_into s from to path next = flat_map (λ c. walks_on s from to (most_of s -
 abbrev pub AreOpen : Site → ℕ → List Crossing → ℕ → List Branch → Type 0
 AreOpen s from path limit [] = Unit {0}
 AreOpen s from path limit (b ∷ branches) = (b.depth ≤ limit) × IsTrue (may_begin s from (branched path b)) × AreOpen s from path b.depth branches
+
+-- the paths in a tree of this height, where each goes on in x ways
+abbrev pub size : ℕ → ℕ → ℕ
+size x zero = 1
+size x (suc n) = 1 + x * size x n
+
+-- how much is left to search at most, where paths have m crossings at most and each goes on in x ways
+abbrev pub weight : ℕ → ℕ → List Branch → ℕ
+weight m x [] = 0
+weight m x (b ∷ branches) = size x (m - b.depth) + weight m x branches

@@ -1,5 +1,5 @@
 -- When a path leads nowhere: marks on zones and routers that show it.
-use Rattle.std.specs.Prelude.{◌≡◌, ℕ, Bool, true, false, not, ◌&&◌, ◌||◌, ◌⊎◌, List, [], ◌++◌, slice_index_or}
+use Rattle.std.specs.Prelude.{◌≡◌, ℕ, Bool, true, false, not, ◌&&◌, ◌||◌, ◌⊎◌, List, [], ◌∷◌, ◌++◌, slice_index_or}
 use Rattle.std.specs.List.{list_all}
 use Rattle.policy_model.specs.Lists.{has}
 use Rattle.policy_model.specs.Policy.{router_at, all_ifaces}
@@ -26,11 +26,15 @@ keep_marks s from path zones routers = list_all (keeps_marks s from path zones r
 abbrev pub LeadsNowhere : Site → ℕ → ℕ → List Crossing → Type 0
 LeadsNowhere s from to path = (n : ℕ) → walks_on s from to n path ≡ []
 
--- What is open where the path may go on: its branches come in front of what was open, unless it leads nowhere.
-abbrev pub AreOpened : Site → ℕ → ℕ → List Crossing → List Branch → List Branch → Type 0
-AreOpened s from to path old new = (new ≡ branches_of s from path ++ old) ⊎ (LeadsNowhere s from to path × (new ≡ old))
+-- nor to any of some zones
+abbrev pub LeadsToNone : Site → ℕ → List ℕ → List Crossing → Type 0
+LeadsToNone s from wanted path = (to : ℕ) → has wanted to ≡ true → LeadsNowhere s from to path
+
+-- What is open where the path may go on to some zones: its branches come in front of what was open, unless it leads to none of them.
+abbrev pub AreOpened : Site → ℕ → List ℕ → List Crossing → List Branch → List Branch → Type 0
+AreOpened s from wanted path old new = (new ≡ branches_of s from path ++ old) ⊎ (LeadsToNone s from wanted path × (new ≡ old))
 
 -- What is open after a step: only what was, where the path is there.
 abbrev pub AreLeft : Site → ℕ → ℕ → Bool → List Crossing → List Branch → List Branch → Type 0
 AreLeft s from to true path old new = new ≡ old
-AreLeft s from to false path old new = AreOpened s from to path old new
+AreLeft s from to false path old new = AreOpened s from (to ∷ []) path old new

@@ -10,7 +10,9 @@ mod onward;
 mod search;
 mod shut;
 mod step;
+pub mod tables;
 
 pub use begun::{begins, extends};
 pub use listing::{WalkList, walks};
 pub use marks::plain_marks;
+pub use tables::plain_tables;

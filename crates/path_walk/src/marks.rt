@@ -17,7 +17,7 @@ use zone_graph::{Crossing, Link, MarkTable, ZoneGraph};
 
 /// The crossings and the links of the walks so far, as pairs of interfaces' numbers.
 #[derive(Drop)]
-struct Marks {
+pub(crate) struct Marks {
     crossings: BTreeSet<(u32, u32)>,
     links: BTreeSet<(u32, u32)>,
 }
@@ -80,7 +80,7 @@ fn links_of(alloc: Global, pairs: &BTreeSet<(u32, u32)>) -> Result<Vec<Link>, No
 
 impl Marks {
     /// No marks.
-    fn new(alloc: Global) -> Marks
+    pub(crate) fn new(alloc: Global) -> Marks
         ensures crossings { result.crossings.keys ≡ [] }
         ensures links { result.links.keys ≡ [] }
     {
@@ -91,7 +91,7 @@ impl Marks {
     }
 
     /// Adds the crossings and the links of a walk.
-    fn add_walk(&mut self, path: &[Step]) -> Result<(), NoMemory>
+    pub(crate) fn add_walk(&mut self, path: &[Step]) -> Result<(), NoMemory>
         ensures crossings { OnOk result (self.new.crossings.keys ≡ with_pairs self.old.crossings.keys (crossing_pairs (path_seen path.now))) }
         ensures links { OnOk result (self.new.links.keys ≡ with_pairs self.old.links.keys (link_pairs (path_seen path.now))) }
     {
@@ -123,7 +123,7 @@ impl Marks {
     }
 
     /// The marks as a table.
-    fn table(&self, alloc: Global) -> Result<MarkTable, NoMemory>
+    pub(crate) fn table(&self, alloc: Global) -> Result<MarkTable, NoMemory>
         ensures crossings { IfOk result (λ table. map crossing_seen table.crossings ≡ map crossing_at self.now.crossings.keys) }
         ensures links { IfOk result (λ table. map link_seen table.links ≡ map link_at self.now.links.keys) }
     {

@@ -7,10 +7,11 @@ ghost use Rattle.path_walk.specs.Search.{goes_on, branched, branches_of, branche
 ghost use Rattle.path_walk.specs.Stack.{branch_seen, open_seen};
 ghost use Rattle.path_walk.specs.Next.{IsNext};
 ghost use Rattle.path_walk.specs.Shut.{AreOpened, AreLeft};
+ghost use Rattle.path_walk.specs.Swept.{numbers_of, IsAdvanced};
 
 use crate::lookup::zone_at;
 use crate::onward::{add_at, goes_on, onward};
-use crate::shut::leads_nowhere;
+use crate::shut::leads_to_none;
 use crate::step::Step;
 use smallvec::SmallVec;
 use spoc_base::{IfId, NoMemory, Row, ZoneId};
@@ -162,23 +163,23 @@ impl Search {
         self.open_all(crossings)
     }
 
-    /// Opens the branches by which the path may go on to a zone: none where marks show that it leads
-    /// nowhere. They are asked only where there are branches.
+    /// Opens the branches by which the path may go on to some zones: none where marks show that it
+    /// leads to none of them. They are asked only where there are branches.
     fn expand_towards(
         &mut self,
         alloc: Global,
         topo: Topo<'_>,
         graph: &ZoneGraph,
         from: ZoneId,
-        to: ZoneId,
+        wanted: &[ZoneId],
     ) -> Result<(), NoMemory>
         requires { IsGraphOf (policy_of topo) graph.now }
         ensures path { self.new.path.items ≡ self.old.path.items }
-        ensures branches { OnOk result (AreOpened (site_of (policy_of topo.entry) graph.now) from.0 to.0 (path_seen self.old.path.items) (open_seen self.old.open.items) (open_seen self.new.open.items)) }
+        ensures branches { OnOk result (AreOpened (site_of (policy_of topo.entry) graph.now) from.0 (numbers_of wanted.now) (path_seen self.old.path.items) (open_seen self.old.open.items) (open_seen self.new.open.items)) }
     {
         let crossings = onward(alloc, topo, graph, from, self.path.as_slice())?;
         if !crossings.is_empty()
-            && leads_nowhere(alloc, topo, graph, from, self.path.as_slice(), to)?
+            && leads_to_none(alloc, topo, graph, from, self.path.as_slice(), wanted)?
         {
             return Ok(());
         }
@@ -205,7 +206,7 @@ impl Search {
         if zone_at(topo, graph, branch.crossing.leave) == to {
             return Ok(true);
         }
-        self.expand_towards(alloc, topo, graph, from, to)?;
+        self.expand_towards(alloc, topo, graph, from, &[to])?;
         Ok(false)
     }
 
@@ -230,5 +231,29 @@ impl Search {
             }
         }
         Ok(false)
+    }
+
+    /// Follows the next branch, if there is one, and says to which zone it leads. Opens the branches
+    /// by which the path goes on from there, unless it leads to none of the zones that are looked
+    /// for.
+    pub(crate) fn advance(
+        &mut self,
+        alloc: Global,
+        topo: Topo<'_>,
+        graph: &ZoneGraph,
+        from: ZoneId,
+        wanted: &[ZoneId],
+    ) -> Result<Option<ZoneId>, NoMemory>
+        requires graph { IsGraphOf (policy_of topo) graph.now }
+        requires branches { AreOpen (site_of (policy_of topo) graph.now) from.0 (path_seen self.old.path.items) (length (path_seen self.old.path.items)) (open_seen self.old.open.items) }
+        ensures { IfOk result (λ reached. IsAdvanced (site_of (policy_of topo.entry) graph.now) from.0 (numbers_of wanted.now) (path_seen self.old.path.items) (open_seen self.old.open.items)
+            reached (path_seen self.new.path.items) (open_seen self.new.open.items)) }
+    {
+        let Some(branch) = self.open.pop() else {
+            return Ok(None);
+        };
+        self.follow(branch)?;
+        self.expand_towards(alloc, topo, graph, from, wanted)?;
+        Ok(Some(zone_at(topo, graph, branch.crossing.leave)))
     }
 }

@@ -1,8 +1,10 @@
-ghost use Rattle.std.specs.Prelude.{◌≡◌, IfOk, length, true};
+ghost use Rattle.std.specs.Prelude.{◌≡◌, IfOk, length, not, true};
+ghost use Rattle.std.specs.List.{list_all};
 ghost use Rattle.topology.specs.View.{policy_of};
 ghost use Rattle.zone_graph.specs.Grouped.{IsGraphOf};
 ghost use Rattle.path_walk.specs.Seen.{site_of, path_seen};
-ghost use Rattle.path_walk.specs.Shut.{is_marked, keeps_marks, keep_marks, LeadsNowhere};
+ghost use Rattle.path_walk.specs.Shut.{is_marked, keeps_marks, keep_marks, LeadsToNone};
+ghost use Rattle.path_walk.specs.Swept.{numbers_of};
 
 use crate::lookup::{doors_in, ifs_of, router_at, zone_at};
 use crate::onward::{end_of, passes_router, passes_zone};
@@ -108,7 +110,7 @@ impl Reach {
         Ok(())
     }
 
-    // What is reached from the end of a path, up to a zone that is looked for.
+    // What is reached from the end of a path, up to a zone at which that is enough.
     fn of(
         alloc: Global,
         topo: Topo<'_>,
@@ -116,7 +118,7 @@ impl Reach {
         from: ZoneId,
         path: &[Step],
         end: ZoneId,
-        to: ZoneId,
+        enough: Option<ZoneId>,
     ) -> Result<Reach, NoMemory>
         requires { IsGraphOf (policy_of topo) graph.now }
     {
@@ -131,7 +133,9 @@ impl Reach {
         mark(&mut reach.zones, end.0);
         reach.leave_zone(topo, graph, from, path, end)?;
         for _ in 0..graph.count() {
-            if is_marked(&reach.zones, to.0) {
+            if let Some(z) = enough
+                && is_marked(&reach.zones, z.0)
+            {
                 return Ok(reach);
             }
             match reach.next.pop() {
@@ -192,49 +196,63 @@ fn keep_marks(
     true
 }
 
-// Whether marks show that a path leads nowhere: its end is marked, the zone isn't, and marks end
-// at no interface.
-fn show_nowhere(
+// Whether none of the zones is marked.
+fn none_marked(zones: &[bool], wanted: &[ZoneId]) -> bool
+    ensures { result ≡ list_all (λ z. not (is_marked zones.now z.0)) wanted.now }
+{
+    wanted.iter().all(|z| !is_marked(zones, z.0))
+}
+
+// Whether marks show that a path leads to none of the zones: its end is marked, they aren't, and
+// marks end at no interface.
+fn show_none(
     topo: Topo<'_>,
     graph: &ZoneGraph,
     from: ZoneId,
     path: &[Step],
-    to: ZoneId,
+    wanted: &[ZoneId],
     zones: &[bool],
     routers: &[bool],
 ) -> bool
     requires { IsGraphOf (policy_of topo) graph.now }
-    ensures { result ≡ true → LeadsNowhere (site_of (policy_of topo.entry) graph.now) from.0 to.0 (path_seen path.now) }
+    ensures { result ≡ true → LeadsToNone (site_of (policy_of topo.entry) graph.now) from.0 (numbers_of wanted.now) (path_seen path.now) }
 {
     let end = end_of(topo, graph, from, path);
     if !is_marked(zones, end.0) {
         return false;
     }
-    if is_marked(zones, to.0) {
+    if !none_marked(zones, wanted) {
         return false;
     }
     keep_marks(topo, graph, from, path, zones, routers)
 }
 
-/// Whether a path leads nowhere, as far as zones and routers show it: where it does, no allowed
-/// walk to the zone begins with it. All that the path may come to is marked, by a search over zones
-/// and routers that it hasn't passed; then the marks are looked at, and not the search is trusted.
-/// Restrictions play no part, so that a path may lead nowhere and this not show it.
-pub(crate) fn leads_nowhere(
+/// Whether a path leads to none of the zones, as far as zones and routers show it: where it does,
+/// no allowed walk to one of them begins with it. All that the path may come to is marked, by a
+/// search over zones and routers that it hasn't passed; then the marks are looked at, and not the
+/// search is trusted. Restrictions play no part, so that a path may lead to none of the zones and
+/// this not show it.
+pub(crate) fn leads_to_none(
     alloc: Global,
     topo: Topo<'_>,
     graph: &ZoneGraph,
     from: ZoneId,
     path: &[Step],
-    to: ZoneId,
+    wanted: &[ZoneId],
 ) -> Result<bool, NoMemory>
     requires { IsGraphOf (policy_of topo) graph.now }
-    ensures { IfOk result (λ nowhere. nowhere ≡ true → LeadsNowhere (site_of (policy_of topo.entry) graph.now) from.0 to.0 (path_seen path.now)) }
+    ensures { IfOk result (λ none. none ≡ true → LeadsToNone (site_of (policy_of topo.entry) graph.now) from.0 (numbers_of wanted.now) (path_seen path.now)) }
 {
     let end = end_of(topo, graph, from, path);
-    let reach = Reach::of(alloc, topo, graph, from, path, end, to)?;
-    if is_marked(&reach.zones, to.0) {
-        return Ok(false);
-    }
-    Ok(show_nowhere(topo, graph, from, path, to, &reach.zones, &reach.routers))
+    let first = wanted.first().copied();
+    let reach = Reach::of(alloc, topo, graph, from, path, end, first)?;
+    Ok(show_none(
+        topo,
+        graph,
+        from,
+        path,
+        wanted,
+        &reach.zones,
+        &reach.routers,
+    ))
 }

@@ -1,35 +1,39 @@
--- One table of marks after another.
-use Rattle.std.proofs.Common.{◌≡◌, ℕ, ◌<◌, ◌≤◌, List, [], ◌∷◌, ◌++◌, length, refl, sym, ap, subst, ◌∙◌, ⊎_elim, length-append, arith}
+-- Tables of marks are those of their pairs of zones.
+use Rattle.std.proofs.Common.{◌≡◌, ℕ, zero, suc, ◌<◌, List, [], ◌∷◌, length, map, drop, refl, sym, ap, subst, ◌∙◌, arith}
 use Rattle.std.specs.Prelude.{slice_index_or}
-use Rattle.std.proofs.Math.Seq.{get_or-append_seam}
-use Rattle.std.proofs.lemmas.Bool.{cases_lt}
-use Rattle.std.proofs.lemmas.List.{map_push, get_or_append_left}
+use Rattle.spoc_base.specs.declared.ids.ZoneId.{ZoneId}
 use Rattle.policy_model.specs.Zones.{Site}
+use Rattle.policy_model.specs.Marks.{marked_crossings}
 use Rattle.zone_graph.specs.declared.marks.PairMarks.{PairMarks}
-use Rattle.rule_distribute.specs.Paths.{HaveMarks, zones_named}
-use Rattle.policy_lists.specs.Marked.{IsMarked}
+use Rattle.path_walk.specs.Tables.{Table, table_seen, table_of}
+use Rattle.rule_distribute.specs.Paths.{HaveMarks, zones_named, crossing_seen}
+use Rattle.policy_lists.specs.Marked.{zones_seen}
 
-pub no_tables : (s : Site) → HaveMarks s [] []
-no_tables s = record { names = refl; marks = λ k t below at. absurd (omega (arith, below)) }
+-- the table has the crossings of all allowed walks between its zones
+abbrev IsMarked : Site → PairMarks → Type 0
+IsMarked s t = map crossing_seen t.marks.crossings ≡ marked_crossings s t.from.0 t.to.0
 
-pub one_table_more : (s : Site) (wanted all : List (ℕ × ℕ)) (tables new : List PairMarks) (t : PairMarks) (z : ℕ × ℕ) →
-    new ≡ tables ++ t ∷ [] → all ≡ wanted ++ z ∷ [] → zones_named t ≡ z → IsMarked s t → HaveMarks s wanted tables → HaveMarks s all new
-one_table_more s wanted all tables new t z grown longer named marked old =
-    subst (λ (xs : List PairMarks). HaveMarks s all xs) (sym grown)
-    (subst (λ (ws : List (ℕ × ℕ)). HaveMarks s ws (tables ++ t ∷ [])) (sym longer)
-    (record {
-      names = map_push zones_named tables t ∙ (ap (λ zs. zs ++ zones_named t ∷ []) old.names ∙ ap (λ y. wanted ++ y ∷ []) named);
-      marks = each;
-    }))
+names_of : (s : Site) (pairs : List (ZoneId × ZoneId)) (tables : List PairMarks) → map table_seen tables ≡ map (table_of s) pairs → map zones_named tables ≡ map zones_seen pairs
+names_of s pairs tables e = sym (seen tables) ∙ (ap (λ l. map (λ (t : Table). (t.from, t.to)) l) e ∙ between pairs)
   where
-    each : (k : ℕ) (x : PairMarks) → k < length (tables ++ t ∷ []) → slice_index_or (tables ++ t ∷ []) k x ≡ x → IsMarked s x
-    each k x below at =
-        ⊎_elim (λ (here : k < length tables). old.marks k x here (sym (get_or_append_left tables (t ∷ []) x k here) ∙ at))
-        (λ (past : length tables ≤ k).
-        let long = length-append tables (t ∷ []) in
-        let e : length tables ≡ k = omega (arith, past, below, long) in
-        let is : t ≡ x = sym (get_or-append_seam tables t [] x) ∙ (ap (λ n. slice_index_or (tables ++ t ∷ []) n x) e ∙ at) in
-        subst (IsMarked s) is marked) (cases_lt k (length tables))
+    seen : (ts : List PairMarks) → map (λ (t : Table). (t.from, t.to)) (map table_seen ts) ≡ map zones_named ts
+    seen [] = refl
+    seen (t ∷ ts) = ap (λ l. zones_named t ∷ l) (seen ts)
+    between : (zs : List (ZoneId × ZoneId)) → map (λ (t : Table). (t.from, t.to)) (map (table_of s) zs) ≡ map zones_seen zs
+    between [] = refl
+    between (z ∷ zs) = ap (λ l. zones_seen z ∷ l) (between zs)
 
-pub same_zones : (t : PairMarks) (from to : ℕ) → t.from.0 ≡ from → t.to.0 ≡ to → zones_named t ≡ (from, to)
-same_zones t from to e f = ap (λ z. (z, t.to.0)) e ∙ ap (λ z. (from, z)) f
+is_marked : (s : Site) (z : ZoneId × ZoneId) (t : PairMarks) → table_seen t ≡ table_of s z → IsMarked s t
+is_marked s z t e =
+    ap (λ (x : Table). x.crossings) e
+    ∙ (ap (λ (k : ℕ). marked_crossings s k z.1.0) (sym (ap (λ (x : Table). x.from) e)) ∙ ap (λ (k : ℕ). marked_crossings s t.from.0 k) (sym (ap (λ (x : Table). x.to) e)))
+
+marked_all : (s : Site) (pairs : List (ZoneId × ZoneId)) (tables : List PairMarks) → map table_seen tables ≡ map (table_of s) pairs →
+    (k : ℕ) (t : PairMarks) → k < length tables → slice_index_or tables k t ≡ t → IsMarked s t
+marked_all s pairs [] e k t below at = absurd (omega (arith, below))
+marked_all s [] (x ∷ tables) e k t below at = absurd (omega (arith, ap length e))
+marked_all s (z ∷ pairs) (x ∷ tables) e zero t below at = subst (IsMarked s) at (is_marked s z x (ap (λ l. slice_index_or l 0 (table_seen x)) e))
+marked_all s (z ∷ pairs) (x ∷ tables) e (suc k) t below at = marked_all s pairs tables (ap (λ l. drop 1 l) e) k t (omega (arith, below)) at
+
+pub have_marks : (s : Site) (pairs : List (ZoneId × ZoneId)) (tables : List PairMarks) → map table_seen tables ≡ map (table_of s) pairs → HaveMarks s (map zones_seen pairs) tables
+have_marks s pairs tables e = record { names = names_of s pairs tables e; marks = marked_all s pairs tables e }

@@ -7,32 +7,15 @@ ghost use Rattle.permit_set.specs.Shown.{permit_of};
 ghost use Rattle.rule_distribute.specs.Given.{site_with};
 ghost use Rattle.rule_distribute.specs.Paths.{HaveMarks};
 ghost use Rattle.policy_lists.specs.Known.{site_in, IsViewed};
-ghost use Rattle.policy_lists.specs.Marked.{zones_seen, IsMarked};
+ghost use Rattle.policy_lists.specs.Marked.{zones_seen};
 
 use crate::viewed::Viewed;
-use path_walk::plain_marks;
+use path_walk::plain_tables;
 use rule_distribute::zone_pairs;
 use spoc_base::{NoMemory, ZoneId};
 use std::alloc::Global;
 use topology::Topo;
 use zone_graph::{PairMarks, ZoneGraph};
-
-// The marks of the walks from one zone to another.
-fn table_of(
-    alloc: Global,
-    topo: Topo<'_>,
-    graph: &ZoneGraph,
-    from: ZoneId,
-    to: ZoneId,
-) -> Result<PairMarks, NoMemory>
-    requires { IsGraphOf (policy_of topo) graph.now }
-    ensures from { IfOk result (λ table. table.from.0 ≡ from.0) }
-    ensures to { IfOk result (λ table. table.to.0 ≡ to.0) }
-    ensures marks { IfOk result (λ table. IsMarked (site_with (policy_of topo.entry) graph.now) table) }
-{
-    let marks = plain_marks(alloc, topo, graph, from, to)?;
-    Ok(PairMarks { from, to, marks })
-}
 
 // The marks of the walks of each of these pairs of zones.
 fn tables_for(
@@ -44,12 +27,7 @@ fn tables_for(
     requires { IsGraphOf (policy_of topo) graph.now }
     ensures { IfOk result (λ tables. HaveMarks (site_with (policy_of topo.entry) graph.now) (map zones_seen pairs.now) tables.items) }
 {
-    let mut tables = Vec::new(alloc);
-    for pair in pairs {
-        let table = table_of(alloc, topo, graph, pair.0, pair.1)?;
-        tables.push(table)?;
-    }
-    Ok(tables)
+    plain_tables(alloc, topo, graph, pairs)
 }
 
 /// The marks of all walks on which the lists depend.

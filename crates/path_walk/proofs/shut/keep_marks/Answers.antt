@@ -1,5 +1,4 @@
-use Rattle.std.proofs.Common.{◌≡◌, ◌∙◌, ◌<◌, sym, subst, length}
-use Rattle.policy_model.specs.Policy.{all_ifaces}
+use Rattle.std.proofs.Common.{◌∙◌, ◌<◌, sym, subst, length}
 use Rattle.topology.specs.View.{policy_of}
 use Rattle.path_walk.specs.Seen.{site_of, path_seen}
 use Rattle.path_walk.specs.Shut.{keeps_marks}

@@ -2,9 +2,9 @@ use Rattle.std.proofs.Common.{length}
 use Rattle.policy_model.specs.Walks.{all_crossings}
 use Rattle.topology.specs.View.{policy_of}
 use Rattle.path_walk.specs.Seen.{site_of, path_seen}
-use Rattle.path_walk.specs.Search.{most_of}
+use Rattle.path_walk.specs.Search.{most_of, weight}
 use Rattle.path_walk.specs.Stack.{open_seen}
-use Rattle.path_walk.proofs.Open.{weight, IsGoing}
+use Rattle.path_walk.proofs.Open.{IsGoing}
 use Rattle.path_walk.proofs.search.Search.next.Given as goal
 
 abbrev pub invariant-loop-branch : goal.invariant-loop-branch

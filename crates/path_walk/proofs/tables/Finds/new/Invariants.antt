@@ -1,0 +1,6 @@
+use Rattle.path_walk.specs.Swept.{numbers_of}
+use Rattle.path_walk.specs.Tables.{AreNew}
+use Rattle.path_walk.proofs.tables.Finds.new.Given as goal
+
+abbrev pub invariant-loop-z : goal.invariant-loop-z
+invariant-loop-z l = AreNew l.fn.from.0 (numbers_of l.wanted) l.ends
