@@ -19,6 +19,7 @@ names_of s pairs tables e = sym (seen tables) ∙ (ap (λ l. map (λ (t : Table)
     seen : (ts : List PairMarks) → map (λ (t : Table). (t.from, t.to)) (map table_seen ts) ≡ map zones_named ts
     seen [] = refl
     seen (t ∷ ts) = ap (λ l. zones_named t ∷ l) (seen ts)
+
     between : (zs : List (ZoneId × ZoneId)) → map (λ (t : Table). (t.from, t.to)) (map (table_of s) zs) ≡ map zones_seen zs
     between [] = refl
     between (z ∷ zs) = ap (λ l. zones_seen z ∷ l) (between zs)
