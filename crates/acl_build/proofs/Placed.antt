@@ -1,5 +1,5 @@
 -- What is placed at an interface are blocks whose networks and permits are there, and their lines are the list.
-use Rattle.std.proofs.Common.{◌≡◌, ℕ, ◌<◌, ◌-◌, inl, inr, Bool, true, false, List, [], ◌∷◌, ◌++◌, length, map, refl, sym, ap, subst, ◌∙◌}
+use Rattle.std.proofs.Common.{◌≡◌, ℕ, ◌<◌, ◌+◌, ◌-◌, inl, inr, Bool, true, false, List, [], ◌∷◌, ◌++◌, length, map, refl, sym, ap, subst, ◌∙◌}
 use Rattle.std.specs.Prelude.{◌&&◌, ◌==◌, filter, flat_map, if◌then◌else◌}
 use Rattle.std.specs.List.{All}
 use Rattle.std.proofs.lemmas.List.Elements.{All-nil, All-cons}
@@ -8,7 +8,7 @@ use Rattle.policy_model.specs.Policy.{Policy, all_nets}
 use Rattle.policy_model.specs.Zones.{Site}
 use Rattle.policy_model.specs.Tags.{Views}
 use Rattle.policy_model.specs.Permits.{Permit, has_replies}
-use Rattle.policy_model.specs.Blocks.{NetPair, Block, all_pairs, is_on_path, pairs_on_path, no_permit, permit_at, permits_between, replied_between, is_ios_at, view_here, block_of, is_needed, depth_of, placement, block_lines, list_at}
+use Rattle.policy_model.specs.Blocks.{NetPair, Block, all_pairs, is_on_path, pairs_on_path, no_permit, permit_at, permits_between, replied_between, places_replies_at, view_here, block_of, is_needed, depth_of, placement, block_lines, list_at}
 use Rattle.policy_model.specs.Filters.{deny_all}
 use Rattle.policy_model.proofs.AllWalks.{IsIn, from_map}
 use Rattle.policy_laws.proofs.Members.{from_flat_map, from_filter}
@@ -21,6 +21,9 @@ use Rattle.dev_config.specs.Seen.{line_of}
 use Rattle.dev_config.specs.declared.setup.Line.{Line}
 use Rattle.nat_view.specs.Seen.{Sight}
 use Rattle.acl_build.specs.Seen.{block_seen, GrowsBy}
+use Rattle.acl_build.specs.Limit.{RefusesLines}
+use Rattle.acl_build.proofs.Limits.{over_whole, over_last}
+use Rattle.spoc_base.specs.declared.fault.Refusal.{Refusal}
 
 -- ---- members of lists
 
@@ -47,7 +50,7 @@ module _ (s : Site) (v : Views) (permits : List Permit) (i : ℕ) where
   replied_below : (e : NetPair) (k : ℕ) → IsIn k (replied_between s.policy permits i e) → k < length permits
   replied_below e k h =
       let all = permits_between permits e.dst e.src in
-      let w = from_choice (is_ios_at s.policy i) k (filter (λ k. has_replies (permit_at permits k).box) all) h in
+      let w = from_choice (places_replies_at s.policy i) k (filter (λ k. has_replies (permit_at permits k).box) all) h in
       between_below e.dst e.src k (from_filter (λ k. has_replies (permit_at permits k).box) k all w).0
 
   src_of : (e : NetPair) (u w : ℕ) → e ≡ record { src = u; dst = w } → u < length s.policy.nets → e.src < length s.policy.nets
@@ -111,12 +114,26 @@ module _ (s : Site) (v : Views) (permits : List Permit) (i : ℕ) where
       ap (flat_map (lines_of_block s.policy (view_here s v permits i) permits)) e
       ∙ same_pieces (lines_of_block s.policy (view_here s v permits i) permits) (block_lines s v permits i) (placement s v permits i) its_lines
 
+  blocks_are : (sight : Sight) (blocks : List Block) → sight.policy ≡ s.policy → sight.tags ≡ view_here s v permits i → blocks ≡ placement s v permits i →
+      flat_map (lines_of_block sight.policy sight.tags permits) blocks ≡ flat_map (block_lines s v permits i) (placement s v permits i)
+  blocks_are sight blocks e f g =
+      ap (λ p. flat_map (lines_of_block p sight.tags permits) blocks) e ∙ (ap (λ t. flat_map (lines_of_block s.policy t permits) blocks) f ∙ blocks_give blocks g)
+
   -- the lines of the blocks in the interface's view, and then the last denial, are the list
   pub list_made : (sight : Sight) (blocks : List Block) (old mid new : List Line) → sight.policy ≡ s.policy → sight.tags ≡ view_here s v permits i → blocks ≡ placement s v permits i →
       old ≡ [] → GrowsBy (flat_map (lines_of_block sight.policy sight.tags permits) blocks) old mid → GrowsBy (deny_all ∷ []) mid new → map line_of new ≡ list_at s v permits i
   list_made sight blocks old mid new e f g none first last =
       let given = flat_map (lines_of_block sight.policy sight.tags permits) blocks in
-      let same : given ≡ flat_map (block_lines s v permits i) (placement s v permits i) =
-      ap (λ p. flat_map (lines_of_block p sight.tags permits) blocks) e ∙ (ap (λ t. flat_map (lines_of_block s.policy t permits) blocks) f ∙ blocks_give blocks g) in
       let start : map line_of mid ≡ given = first ∙ ap (λ os. map line_of os ++ given) none in
-      last ∙ ap (λ ls. ls ++ deny_all ∷ []) (start ∙ same)
+      last ∙ ap (λ ls. ls ++ deny_all ∷ []) (start ∙ blocks_are sight blocks e f g)
+
+  -- blocks that are refused, and a last line that is, are too many lines of the list
+  pub blocks_over : (sight : Sight) (blocks : List Block) (old : List Line) (most : ℕ) (r : Refusal) → sight.policy ≡ s.policy → sight.tags ≡ view_here s v permits i → blocks ≡ placement s v permits i →
+      old ≡ [] → RefusesLines most (length old + length (flat_map (lines_of_block sight.policy sight.tags permits) blocks)) r → RefusesLines most (length (list_at s v permits i)) r
+  blocks_over sight blocks old most r e f g none h =
+      over_whole most (flat_map (block_lines s v permits i) (placement s v permits i)) (flat_map (lines_of_block sight.policy sight.tags permits) blocks) deny_all old r (blocks_are sight blocks e f g) none h
+
+  pub last_over : (sight : Sight) (blocks : List Block) (old mid : List Line) (most : ℕ) (r : Refusal) → sight.policy ≡ s.policy → sight.tags ≡ view_here s v permits i → blocks ≡ placement s v permits i →
+      old ≡ [] → GrowsBy (flat_map (lines_of_block sight.policy sight.tags permits) blocks) old mid → RefusesLines most (length mid + 1) r → RefusesLines most (length (list_at s v permits i)) r
+  last_over sight blocks old mid most r e f g none grown h =
+      over_last most (flat_map (block_lines s v permits i) (placement s v permits i)) (flat_map (lines_of_block sight.policy sight.tags permits) blocks) deny_all old mid r (blocks_are sight blocks e f g) none grown h

@@ -1,10 +1,10 @@
 //! The access list at an interface, before it is optimised: line by line from the permits that are
-//! placed there.
+//! placed there, as far as a limit of lines allows.
 #![tactic(auto)]
 
 mod blocks;
+mod covers;
 mod lines;
 mod list;
-mod permits;
 
 pub use list::build;

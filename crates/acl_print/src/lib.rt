@@ -9,6 +9,3 @@ mod ios;
 mod word;
 
 pub use device::print;
-
-#[cfg(test)]
-mod tests;

@@ -1,4 +1,6 @@
 pub mod Own
 pub mod Lying
 pub mod OnWalks
+pub mod Shown
+pub mod Passing
 pub mod Accepted

@@ -1,25 +1,24 @@
 -- Addresses of hosts and interfaces lie at their own networks, in each view where none lies at another one.
-use Rattle.std.proofs.Common.{◌≡◌, ℕ, ◌-◌, ◌<◌, ◌^◌, inl, inr, true, false, List, length, ap, sym, subst, ◌∙◌, ⊎_elim, arith}
-use Rattle.std.specs.Prelude.{◌==◌, Some, option_and_then}
+use Rattle.std.proofs.Common.{◌≡◌, ℕ, ◌-◌, ◌<◌, ◌^◌, inl, inr, Bool, true, false, List, length, ap, sym, subst, ◌∙◌, ⊎_elim, arith}
+use Rattle.std.specs.Prelude.{◌==◌, Some, is_some, option_and_then}
 use Rattle.std.specs.Option.{option_map_or}
 use Rattle.std.proofs.lemmas.Bool.{cases_Bool, eq-eqb, false≢true}
 use Rattle.std.proofs.lemmas.Nat.{pow_pos}
 use Rattle.spoc_base.specs.Address.{within, prefix_holds}
 use Rattle.policy_model.specs.Policy.{Policy, net_of, host_of, net_at}
-use Rattle.policy_model.specs.Places.{translated_address, place, is_number, is_placed_at}
+use Rattle.policy_model.specs.Places.{prefix_in, translated_address, place, is_number, is_placed_at}
 use Rattle.policy_model.specs.Packets.{is_unambiguous_point}
 use Rattle.policy_model.specs.Permits.{Point, one_address}
 use Rattle.policy_model.specs.Faults.{IsShadowed}
-use Rattle.policy_model.specs.FirstFault.{HostShadowed, IfaceShadowed, ViewPlace, view_at, is_there}
+use Rattle.policy_model.specs.FirstFault.{HostShadowed, IfaceShadowed, ViewPlace, view_at, is_there, address_at}
 use Rattle.policy_model.specs.Headline.{Meaning}
 use Rattle.policy_laws.specs.Secured.{IsEnd}
 use Rattle.policy_laws.specs.Shaped.{IsShaped}
 use Rattle.policy_laws.proofs.Cover.{from_within, within_from, holds_from}
 use Rattle.topology.specs.First.{HasNone}
 use Rattle.topology.specs.Sound.{IsSound}
-use Rattle.fault_laws.specs.Cases.{HidesNothing}
 use Rattle.address_laws.specs.Held.{IsOfHost, IsOfIface, IsHeld}
-use Rattle.address_laws.proofs.Own.{shown, held_there, some_place}
+use Rattle.address_laws.proofs.Own.{some_prefix, held_there, some_place}
 
 -- ---- own addresses
 
@@ -52,8 +51,12 @@ own_address_held p sound shaped e (inr w) =
     let of : IsOfIface p e i = w.1 in
     record {
       below = subst (λ n. n < length p.nets) of.net (sound.numbered.placed i of.there).0;
-      holds = subst (λ n. prefix_holds (net_of p n).own e.addr ≡ true) of.net (shaped.ifaces i e.addr of.its);
+      holds = subst (λ n. prefix_holds (net_of p n).own e.addr ≡ true) of.net (in_net of.shared of.its);
     }
+  where
+    in_net : (shared : Bool) → address_at p w.0 shared ≡ Some e.addr → prefix_holds (net_of p (net_at p w.0)).own e.addr ≡ true
+    in_net true its = (sound.well_formed.shared w.0 e.addr w.1.there its).1
+    in_net false its = shaped.ifaces w.0 e.addr its
 
 -- ---- no other network
 
@@ -82,14 +85,14 @@ module _ (m : Meaning) (none : HasNone m 6 6) (at : ViewPlace) (there : is_there
         placed = ap (λ n. option_and_then (place m.site.policy view) (translated_address m.site.policy view n e.addr)) of.net ∙ placed;
         elsewhere = λ same. other (same ∙ of.net);
       } in
-      none (IfaceShadowed i u at) (record { lower = omega arith; upper = omega arith }) (of.there, there, record { address = e.addr; its = of.its; shadowed = shadowed })
+      none (IfaceShadowed i of.shared u at) (record { lower = omega arith; upper = omega arith }) (of.there, there, record { address = e.addr; its = of.its; shadowed = shadowed })
 
-  pub lies_at_its_own : IsSound m.site.policy → IsShaped m.site.policy → HidesNothing m.site.policy → (e : Point) → IsHeld m.site.policy e →
-      is_unambiguous_point m.site.policy view e ≡ true
-  lies_at_its_own sound shaped shows e held =
+  pub lies_at_its_own : IsSound m.site.policy → IsShaped m.site.policy → (e : Point) → IsHeld m.site.policy e →
+      is_some (prefix_in m.site.policy view e.net) ≡ true → is_unambiguous_point m.site.policy view e ≡ true
+  lies_at_its_own sound shaped e held shown =
       let p = m.site.policy in
       let own = own_address_held p sound shaped e held in
-      let seen = shown p shows view e.net own.below in
+      let seen = some_prefix (prefix_in p view e.net) shown in
       let here = held_there p view e.net e.addr (shaped.nets e.net own.below) own.holds seen.0 seen.1 in
       let found = some_place p view e.net here.addr own.below here.holds in
       let u : ℕ = found.0 in

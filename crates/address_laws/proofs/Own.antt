@@ -1,9 +1,9 @@
 -- Own addresses of a network, in a view.
-use Rattle.std.proofs.Common.{◌≡◌, ℕ, ◌+◌, ◌-◌, ◌<◌, Bool, true, false, cond, List, [], ◌∷◌, length, refl, ap, ◌∙◌, arith}
-use Rattle.std.specs.Prelude.{◌==◌, Option, Some, None, is_some, filter, find, option_map, unwrap_or}
+use Rattle.std.proofs.Common.{◌≡◌, ℕ, ◌+◌, ◌-◌, ◌<◌, true, false, List, length, refl, ap, ◌∙◌, arith}
+use Rattle.std.specs.Prelude.{◌==◌, Option, Some, None, is_some, filter, option_map, unwrap_or}
 use Rattle.std.specs.Option.{option_map_or}
-use Rattle.std.specs.List.{list_any, list_all}
-use Rattle.std.proofs.lemmas.Bool.{and_parts, false≢true, false_from_ne_true, eq-eqb}
+use Rattle.std.specs.List.{list_any}
+use Rattle.std.proofs.lemmas.Bool.{false≢true, false_from_ne_true, eq-eqb}
 use Rattle.spoc_base.specs.Address.{Cidr, size_of, prefix_holds}
 use Rattle.policy_model.specs.Lists.{has}
 use Rattle.policy_model.specs.Policy.{Policy, net_of, all_nets}
@@ -16,28 +16,12 @@ use Rattle.policy_laws.specs.Secured.{IsNet}
 use Rattle.policy_laws.proofs.Cover.{held_within, holds_from}
 use Rattle.policy_laws.proofs.Order.{none_found}
 use Rattle.policy_laws.proofs.Placed.{seen_as}
-use Rattle.fault_laws.specs.Cases.{HidesNothing}
 
 -- ---- each network is seen
 
-shown_by : (view : List ℕ) (own : Cidr) (nats : List (ℕ × Option Cidr)) → list_all (λ nat. is_some nat.1) nats ≡ true →
-    is_some (unwrap_or (option_map (λ nat. nat.1) (find (λ nat. has view nat.0) nats)) (Some own)) ≡ true
-shown_by view own [] all = refl
-shown_by view own (nat ∷ nats) all =
-    let a = and_parts (is_some nat.1) (list_all (λ x. is_some x.1) nats) all in
-    go (has view nat.0) a.0 (shown_by view own nats a.1)
-  where
-    go : (b : Bool) → is_some nat.1 ≡ true → is_some (unwrap_or (option_map (λ x. x.1) (find (λ x. has view x.0) nats)) (Some own)) ≡ true →
-        is_some (unwrap_or (option_map (λ x. x.1) (cond b (Some nat) (find (λ x. has view x.0) nats))) (Some own)) ≡ true
-    go true here later = here
-    go false here later = later
-
-some_prefix : (o : Option Cidr) → is_some o ≡ true → (q : Cidr) × (o ≡ Some q)
+pub some_prefix : (o : Option Cidr) → is_some o ≡ true → (q : Cidr) × (o ≡ Some q)
 some_prefix None e = absurd (false≢true e)
 some_prefix (Some q) e = (q, refl)
-
-pub shown : (p : Policy) → HidesNothing p → (view : List ℕ) (n : ℕ) → n < length p.nets → (q : Cidr) × (prefix_in p view n ≡ Some q)
-shown p none view n below = some_prefix (prefix_in p view n) (shown_by view (net_of p n).own (net_of p n).nats (none n below))
 
 -- ---- the network holds its addresses
 

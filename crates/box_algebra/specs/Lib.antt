@@ -1,4 +1,3 @@
-pub mod HeaderBoxes
-pub mod Pieces
+pub mod Common
 pub mod Shown
 pub mod Blocks

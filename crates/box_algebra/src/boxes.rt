@@ -2,8 +2,9 @@ ghost use Rattle.std.specs.Prelude.{◌≡◌, IsTrue, ◌↔◌};
 ghost use Rattle.spoc_base.specs.Address.{interval_covers, interval_meets};
 ghost use Rattle.spoc_base.specs.Boxes.{box_covers, box_meets, asks_no_more, agree};
 ghost use Rattle.spoc_base.specs.Shown.{interval_of, ports_of, box_of};
-ghost use Rattle.box_algebra.specs.HeaderBoxes.{header_box_covers, header_box_meets, IsProperSet, IsAddressRange, IsHeaderBox, HoldsAll, HoldBoth};
-ghost use Rattle.list_laws.specs.Lines.{IsPorts, IsByteAsked, IsBox};
+ghost use Rattle.spoc_base.specs.Pieces.{header_box_meets};
+ghost use Rattle.spoc_base.specs.PlainSets.{IsPorts, IsByteAsked, IsBox, IsProperSet};
+ghost use Rattle.piece_laws.specs.HeaderBoxes.{header_box_covers, IsAddressRange, IsHeaderBox, HoldsAll, HoldBoth};
 ghost use Rattle.box_algebra.specs.Shown.{header_box_of};
 
 use spoc_base::{AddrRange, PortRange, TBox};

@@ -4,9 +4,7 @@
 mod boxes;
 mod cover;
 mod pieces;
-#[cfg(test)]
-mod tests;
 
 pub use boxes::{Box4, box_is_proper, covers, meets};
 pub use cover::cover_range;
-pub use pieces::minus;
+pub use pieces::{minus, parts};

@@ -2,8 +2,10 @@ ghost use Rattle.std.specs.Prelude.{◌≡◌, IsTrue, flat_map, ◌+◌, ◌<�
 ghost use Rattle.spoc_base.specs.Address.{interval_meets};
 ghost use Rattle.spoc_base.specs.Boxes.{TransportBox, TcpPorts, UdpPorts, IcmpTypes};
 ghost use Rattle.spoc_base.specs.Shown.{interval_of, ports_of, box_of};
-ghost use Rattle.box_algebra.specs.HeaderBoxes.{HeaderBox, IsProperSet, IsUnmarked};
-ghost use Rattle.box_algebra.specs.Pieces.{below, above, common, listed, all_bytes, all_protocols, other_code, codes_left, kind_left, types_left, protocol_left, whole_protocol, whole_left, transports_left, pairs_left, protocol_of, HaveCommonPorts, box_between, sides_left, difference, IsDifference};
+ghost use Rattle.spoc_base.specs.Pieces.{HeaderBox, below, above, common, listed, all_bytes, all_protocols, other_code, codes_left, kind_left, types_left, protocol_left, whole_protocol, whole_left, transports_left, pairs_left, protocol_of, box_between, sides_left, difference};
+ghost use Rattle.spoc_base.specs.PlainSets.{IsProperSet, IsUnmarked};
+ghost use Rattle.piece_laws.specs.Differences.{IsDifference};
+ghost use Rattle.box_algebra.specs.Common.{HaveCommonPorts};
 ghost use Rattle.box_algebra.specs.Shown.{header_box_of};
 
 use crate::boxes::{Box4, box_is_proper, meets, transport_covers};
@@ -371,8 +373,9 @@ pub fn minus(alloc: Global, a: &Box4, b: &Box4) -> Result<Vec<Box4>, NoMemory>
     parts(alloc, a, b)
 }
 
-/// The pieces of `minus`.
-fn parts(alloc: Global, a: &Box4, b: &Box4) -> Result<Vec<Box4>, NoMemory>
+/// The pieces of `minus`, of any two boxes: where one of them asks for established segments alone,
+/// they are still those of the definition, and no more is said.
+pub fn parts(alloc: Global, a: &Box4, b: &Box4) -> Result<Vec<Box4>, NoMemory>
     ensures { IfOk result (λ v. map header_box_of v.items ≡ difference (header_box_of a.now) (header_box_of b.now)) }
 {
     let mut pieces = Vec::new(alloc);

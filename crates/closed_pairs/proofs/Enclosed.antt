@@ -1,5 +1,5 @@
 -- The pairs inside a pair, source by source.
-use Rattle.std.proofs.Common.{◌≡◌, ℕ, Bool, true, false, cond, not, ◌&&◌, List, [], ◌∷◌, ◌++◌, map, flat_map, filter, refl, sym, ap, subst, ◌∙◌, Option, Some}
+use Rattle.std.proofs.Common.{◌≡◌, ℕ, Bool, true, false, cond, not, ◌&&◌, List, [], ◌∷◌, ◌++◌, map, flat_map, filter, refl, sym, ap, subst, ◌∙◌, Option, Some, None}
 use Rattle.std.specs.Prelude.{◌==◌}
 use Rattle.std.proofs.lemmas.List.Elements.{filter-append}
 use Rattle.spoc_base.specs.Address.{Cidr}
@@ -83,6 +83,37 @@ inside_pairs p view outer src dst a b =
     by_rows t (λ n. is_part_of (prefix_in p view n) (Some src)) (λ n. is_part_of (prefix_in p view n) (Some dst)) (all_nets p) (all_nets p)
     ∙ ap (λ (o : Option Cidr × Option Cidr). filter (λ (e : NetPair). t e && (is_part_of (prefix_in p view e.src) o.0 && is_part_of (prefix_in p view e.dst) o.1)) (all_pairs p))
     (λ i. (sym a i, sym b i))
+
+-- ---- nothing lies in a hidden network
+
+part_of_none : (o : Option Cidr) → is_part_of o None ≡ false
+part_of_none None = refl
+part_of_none (Some q) = refl
+
+all_out : (t : NetPair → Bool) → ((e : NetPair) → t e ≡ false) → (es : List NetPair) → filter t es ≡ []
+all_out t out [] = refl
+all_out t out (e ∷ es) = ap (λ b. cond b (e ∷ filter t es) (filter t es)) (out e) ∙ all_out t out es
+
+and_out : (a b : Bool) → b ≡ false → (a && b) ≡ false
+and_out true b e = e
+and_out false b e = refl
+
+module _ (p : Policy) (view : List ℕ) (outer : NetPair) where
+  pub none_in_source : prefix_in p view outer.src ≡ None → filter (encloses_in p view outer) (all_pairs p) ≡ []
+  none_in_source h =
+      all_out (encloses_in p view outer)
+      (λ e. and_out (not ((outer.src == e.src) && (outer.dst == e.dst))) (is_part_of (prefix_in p view e.src) (prefix_in p view outer.src) && is_part_of (prefix_in p view e.dst) (prefix_in p view outer.dst))
+      (ap (λ o. is_part_of (prefix_in p view e.src) o && is_part_of (prefix_in p view e.dst) (prefix_in p view outer.dst)) h
+      ∙ ap (λ b. b && is_part_of (prefix_in p view e.dst) (prefix_in p view outer.dst)) (part_of_none (prefix_in p view e.src))))
+      (all_pairs p)
+
+  pub none_in_destination : prefix_in p view outer.dst ≡ None → filter (encloses_in p view outer) (all_pairs p) ≡ []
+  none_in_destination h =
+      all_out (encloses_in p view outer)
+      (λ e. and_out (not ((outer.src == e.src) && (outer.dst == e.dst))) (is_part_of (prefix_in p view e.src) (prefix_in p view outer.src) && is_part_of (prefix_in p view e.dst) (prefix_in p view outer.dst))
+      (and_out (is_part_of (prefix_in p view e.src) (prefix_in p view outer.src)) (is_part_of (prefix_in p view e.dst) (prefix_in p view outer.dst))
+      (ap (is_part_of (prefix_in p view e.dst)) h ∙ part_of_none (prefix_in p view e.dst))))
+      (all_pairs p)
 
 pub pushed_inside : (p : Policy) (view : List ℕ) (outer : NetPair) (src dst : Cidr) → prefix_in p view outer.src ≡ Some src → prefix_in p view outer.dst ≡ Some dst →
     (pairs : List NetPair) (srcs dsts : List ℕ) → srcs ≡ nets_within p view src → dsts ≡ nets_within p view dst → pairs ≡ flat_map (others_from outer dsts) srcs →

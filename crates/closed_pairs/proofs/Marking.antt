@@ -1,5 +1,5 @@
 -- Flags that are set pair by pair.
-use Rattle.std.proofs.Common.{◌≡◌, ◌≢◌, ℕ, ◌+◌, ◌<◌, ◌≤◌, inl, inr, Bool, true, false, ◌&&◌, ◌||◌, List, [], ◌∷◌, ◌++◌, length, map, flat_map, take, drop, set, append-nil, refl, sym, ap, subst, ◌∙◌, ⊎_elim, arith}
+use Rattle.std.proofs.Common.{◌≡◌, ◌≢◌, ℕ, ◌+◌, ◌<◌, ◌≤◌, inl, inr, Bool, true, false, ◌&&◌, ◌||◌, List, [], ◌∷◌, ◌++◌, length, map, take, drop, set, append-nil, refl, sym, ap, subst, ◌∙◌, ⊎_elim, arith}
 use Rattle.std.specs.Prelude.{filter, slice_index_or}
 use Rattle.std.specs.List.{All, AllPairs, Contains, list_any}
 use Rattle.std.proofs.Math.Bool.{or-false}
@@ -15,7 +15,7 @@ use Rattle.policy_model.specs.Permits.{Permit}
 use Rattle.policy_model.specs.Blocks.{NetPair, all_pairs}
 use Rattle.policy_model.proofs.AllWalks.{in_map, in_numbers, in_pairs}
 use Rattle.list_laws.proofs.Members.{some_of}
-use Rattle.acl_build.specs.Pieces.{forward_lines, mirrored_lines}
+use Rattle.permit_lines.specs.Pieces.{numbered_lines}
 use Rattle.spoc_base.specs.declared.ids.NetId.{NetId}
 use Rattle.closed_pairs.specs.declared.pairs.PairPermits.{PairPermits}
 use Rattle.closed_pairs.specs.Seen.{pair_seen, nets_seen}
@@ -216,7 +216,7 @@ module _ (p : Policy) where
         each = refl;
         are = λ b h.
             stays_idle (flag_at flags b) (t (numbers_at ps b).pair) (enters p view permits outer (numbers_at ps b))
-            (λ i. list_any (reaches_pair p view permits (numbers_at ps b)) (flat_map (forward_lines p view permits) (e i) ++ flat_map (mirrored_lines p view permits) (f i)));
+            (λ i. list_any (reaches_pair p view permits (numbers_at ps b)) (numbered_lines p view permits (e i) (f i)));
       }
 
   -- ---- pair by pair

@@ -3,12 +3,17 @@ use Rattle.std.specs.Prelude.{◌≡◌, ℕ, ◌<◌, ◌&&◌, ◌||◌, ◌==
 use Rattle.std.specs.List.{All, AllPairs, list_any}
 use Rattle.policy_model.specs.Policy.{Policy}
 use Rattle.policy_model.specs.Permits.{Permit}
+use Rattle.policy_model.specs.Filters.{Line}
 use Rattle.policy_model.specs.Blocks.{NetPair}
 use Rattle.closed_pairs.specs.Reaching.{PairNumbers, AreBelow, AreThere, IsBefore, lines_between, reaches_pair}
 
+-- one of these lines reaches into the pair
+abbrev pub is_reached : Policy → List ℕ → List Permit → List Line → PairNumbers → Bool
+is_reached p view permits lines inner = list_any (reaches_pair p view permits inner) lines
+
 -- a line of the outer pair reaches into the inner one
 abbrev pub enters : Policy → List ℕ → List Permit → PairNumbers → PairNumbers → Bool
-enters p view permits outer inner = list_any (reaches_pair p view permits inner) (lines_between p view permits outer)
+enters p view permits outer inner = is_reached p view permits (lines_between p view permits outer) inner
 
 abbrev pub same_nets : NetPair → NetPair → Bool
 same_nets a b = (a.src == b.src) && (a.dst == b.dst)

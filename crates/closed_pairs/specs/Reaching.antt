@@ -1,5 +1,5 @@
 -- Whether a line reaches into a pair of networks, from the numbers of permits, in one view.
-use Rattle.std.specs.Prelude.{◌≡◌, ℕ, ◌<◌, ◌⊎◌, not, ◌&&◌, ◌==◌, Bool, List, ◌++◌, filter, flat_map, length, map, Option, Some, None, if◌then◌else◌}
+use Rattle.std.specs.Prelude.{◌≡◌, ℕ, ◌<◌, ◌⊎◌, not, ◌&&◌, ◌==◌, Bool, List, filter, length, map, Option, Some, None, if◌then◌else◌}
 use Rattle.std.specs.List.{All, list_any}
 use Rattle.spoc_base.specs.Address.{Cidr}
 use Rattle.policy_model.specs.Policy.{Policy}
@@ -7,7 +7,7 @@ use Rattle.policy_model.specs.Places.{prefix_in}
 use Rattle.policy_model.specs.Permits.{Permit}
 use Rattle.policy_model.specs.Filters.{Line, line_covers}
 use Rattle.policy_model.specs.Blocks.{NetPair, permits_between, replied_between, is_round, limited_to, is_empty_line}
-use Rattle.acl_build.specs.Pieces.{forward_lines, mirrored_lines}
+use Rattle.permit_lines.specs.Pieces.{numbered_lines}
 
 -- the permits of a pair, by number: those from its source to its destination, and those of the way back
 pub record PairNumbers : Type 0 where
@@ -26,7 +26,7 @@ permits_here p permits i e = record { pair = e; forward = permits_between permit
 
 -- the lines of the permits, and then those of the replies
 abbrev pub lines_between : Policy → List ℕ → List Permit → PairNumbers → List Line
-lines_between p view permits e = flat_map (forward_lines p view permits) e.forward ++ flat_map (mirrored_lines p view permits) e.mirrored
+lines_between p view permits e = numbered_lines p view permits e.forward e.mirrored
 
 -- the prefixes of a pair's networks, none where they are hidden
 pub record Ends : Type 0 where

@@ -2,16 +2,18 @@ ghost use Rattle.std.specs.Prelude.{◌≡◌, ◌↔◌, ◌&&◌, [], length, 
 ghost use Rattle.std.specs.List.{All, AllPairs};
 ghost use Rattle.permit_set.specs.Shown.{permit_of};
 ghost use Rattle.nat_view.specs.Sights.{sight_of};
-ghost use Rattle.acl_build.specs.Given.{AreKnown};
+ghost use Rattle.permit_lines.specs.Given.{AreKnown};
+ghost use Rattle.permit_lines.specs.Seen.{lines_of_covers};
 ghost use Rattle.closed_pairs.specs.Seen.{pair_seen, nets_seen};
 ghost use Rattle.closed_pairs.specs.Reaching.{AreBelow, AreThere, IsBefore, encloses_in, is_closed_among};
-ghost use Rattle.closed_pairs.specs.Flags.{enters, same_nets, key_of, AreGiven, AreMarked};
+ghost use Rattle.closed_pairs.specs.Flags.{enters, is_reached, same_nets, key_of, AreGiven, AreMarked};
 
 use crate::inside::pairs_inside;
 use crate::keys::{keys_of, place_of};
 use crate::pairs::PairPermits;
 use crate::reach::reaches_in;
 use nat_view::View;
+use permit_lines::{PermitCover, pair_covers};
 use permit_set::Permit;
 use spoc_base::{NetId, NoMemory};
 use std::alloc::Global;
@@ -23,24 +25,22 @@ fn is_idle(pair: &PairPermits<'_>) -> bool
     pair.forward.is_empty() && pair.mirrored.is_empty()
 }
 
-// Sets the flag of a pair, where it is one of the given pairs and a line of the outer pair reaches
-// into it.
+// Sets the flag of a pair, where it is one of the given pairs and one of these lines reaches into it.
 fn close_one(
     alloc: Global,
     view: View<'_>,
     permits: &[Permit],
     pairs: &[PairPermits<'_>],
     keys: &[(u32, u32)],
-    outer: &PairPermits<'_>,
+    lines: &[PermitCover],
     inner: (NetId, NetId),
     flags: &mut [bool],
 ) -> Result<(), NoMemory>
     requires known { AreKnown (sight_of view).policy (map permit_of permits.now) }
     requires given { AreGiven (sight_of view).policy (length permits.now) (map pair_seen pairs.now) }
     requires keys { keys.now ≡ map key_of (map pair_seen pairs.now) }
-    requires outer { AreBelow (length permits.now) (pair_seen outer.now) }
     requires flags { length flags.old ≡ length pairs.now }
-    ensures { OnOk result (AreMarked (λ e. same_nets (nets_seen inner) e.pair && enters (sight_of view.entry).policy (sight_of view.entry).tags (map permit_of permits.now) (pair_seen outer.now) e) (map pair_seen pairs.now) flags.old flags.new) }
+    ensures { OnOk result (AreMarked (λ e. same_nets (nets_seen inner) e.pair && is_reached (sight_of view.entry).policy (sight_of view.entry).tags (map permit_of permits.now) (lines_of_covers lines.now) e) (map pair_seen pairs.now) flags.old flags.new) }
 {
     let Some(k) = place_of(keys, inner) else {
         return Ok(());
@@ -48,7 +48,7 @@ fn close_one(
     if flags[k] {
         return Ok(());
     }
-    flags[k] = reaches_in(alloc, view, permits, outer, &pairs[k])?;
+    flags[k] = reaches_in(alloc, view, permits, lines, &pairs[k])?;
     Ok(())
 }
 
@@ -74,9 +74,10 @@ fn close_inside(
     if is_idle(outer) {
         return Ok(());
     }
+    let lines = pair_covers(alloc, view, permits, outer.forward, outer.mirrored)?;
     let inside = pairs_inside(alloc, view, outer.src, outer.dst)?;
     for inner in &inside {
-        close_one(alloc, view, permits, pairs, keys, outer, *inner, flags)?;
+        close_one(alloc, view, permits, pairs, keys, &lines, *inner, flags)?;
     }
     Ok(())
 }

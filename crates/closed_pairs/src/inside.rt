@@ -49,7 +49,8 @@ fn push_rows(
 }
 
 /// The pairs of networks that lie inside a pair where the view is: each network inside the source
-/// with each inside the destination, by number, without the pair itself. Equal prefixes count.
+/// with each inside the destination, by number, without the pair itself. Equal prefixes count. There
+/// are none where one of the pair's networks is hidden.
 pub fn pairs_inside(
     alloc: Global,
     view: View<'_>,
@@ -60,9 +61,15 @@ pub fn pairs_inside(
     requires dst { dst.0 < length (sight_of view).policy.nets }
     ensures { IfOk result (λ v. map nets_seen v.items ≡ filter (encloses_in (sight_of view.entry).policy (sight_of view.entry).tags (record { src = src.0; dst = dst.0 })) (all_pairs (sight_of view.entry).policy)) }
 {
-    let srcs = view.inside(alloc, view.prefix_in(src))?;
-    let dsts = view.inside(alloc, view.prefix_in(dst))?;
     let mut pairs = Vec::new(alloc);
+    let Some(outer_src) = view.seen_prefix(src) else {
+        return Ok(pairs);
+    };
+    let Some(outer_dst) = view.seen_prefix(dst) else {
+        return Ok(pairs);
+    };
+    let srcs = view.inside(alloc, outer_src)?;
+    let dsts = view.inside(alloc, outer_dst)?;
     push_rows(&mut pairs, &srcs, &dsts, (src, dst))?;
     Ok(pairs)
 }

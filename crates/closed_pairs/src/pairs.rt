@@ -18,9 +18,9 @@ pub(crate) struct PermitLine {
     pub(crate) t: TBox,
 }
 
-/// The prefixes of a pair's networks, where the view is.
+/// The prefixes of a pair's networks where the view is, none where they are hidden.
 #[derive(Clone, Copy)]
 pub(crate) struct Ends {
-    pub(crate) src: Prefix,
-    pub(crate) dst: Prefix,
+    pub(crate) src: Option<Prefix>,
+    pub(crate) dst: Option<Prefix>,
 }

@@ -1,6 +1,6 @@
 -- The first fault of sources, and what is left where there is none.
-use Rattle.std.proofs.Common.{◌≡◌, ℕ, List, [], ◌∷◌, map, Option, Some, None, refl, sym, ap, ◌∙◌}
-use Rattle.std.specs.Prelude.{Result, Ok, Err}
+use Rattle.std.proofs.Common.{◌≡◌, List, [], ◌∷◌, map, Option, Some, None, refl, sym, ap, ◌∙◌}
+use Rattle.std.specs.Prelude.{Err}
 use Rattle.spoc_base.specs.declared.fault.Fault.{Fault}
 use Rattle.spoc_base.specs.declared.fault.Refusal.{Refusal}
 use Rattle.spoc_base.specs.declared.fault.Refusal.TheVariants as refusal
@@ -13,8 +13,8 @@ use Rattle.policy_files.specs.OfTexts.{declared}
 use Rattle.policy_files.specs.Seen.{texts_of}
 use Rattle.policy_source.specs.Faults.{fault_of_sources}
 use Rattle.fault_text.specs.Texts.{pair_of, fault_line}
-use Rattle.policy_outcome.specs.Outcome.{Written, unless, outcome_for}
-use Rattle.compile_core.specs.Outcome.{source_texts, policy_in, outcome_of}
+use Rattle.policy_outcome.specs.Outcome.{unless, outcome_for}
+use Rattle.source_laws.specs.Sources.{source_texts, policy_in, outcome_of}
 
 pub same_texts : (sources : List Source) → texts_of sources ≡ source_texts (map pair_of sources)
 same_texts [] = refl

@@ -29,7 +29,7 @@ use Rattle.policy_outcome.specs.Found.{meaning_in, pairs_in}
 use Rattle.policy_outcome.specs.Exact.{DecidesExactly, configs_for}
 use Rattle.policy_compile.specs.Seen.{written_of}
 use Rattle.policy_compile.specs.declared.compiled.Compiled.{Compiled}
-use Rattle.compile_core.specs.Outcome.{source_texts, policy_in, outcome_of}
+use Rattle.source_laws.specs.Sources.{source_texts, policy_in, outcome_of}
 use Rattle.compile_core.specs.Exact.{AreExact, file_names}
 use Rattle.compile_core.proofs.Parts.{past_texts}
 

@@ -5,7 +5,7 @@ use Rattle.policy_model.specs.Filters.{Line}
 use Rattle.policy_outcome.specs.Outcome.{Written}
 use Rattle.policy_outcome.specs.Files.{config_for, files_for}
 use Rattle.policy_outcome.specs.Exact.{DecidesExactly}
-use Rattle.compile_core.specs.Outcome.{policy_in}
+use Rattle.source_laws.specs.Sources.{policy_in}
 
 -- The files are the texts of configurations, one for each managed router in order, that decide exactly. The configurations have the lists of the routers'
 -- interfaces.

@@ -1,4 +1,4 @@
-ghost use Rattle.std.specs.Prelude.{◌≡◌, ◌≤◌, IfOk, IfErr, Ok, Err, None, map, length};
+ghost use Rattle.std.specs.Prelude.{◌≡◌, ◌≤◌, IfOk, IfErr, OnOk, Ok, Err, None, map, length};
 ghost use Rattle.std.specs.List.{All, IsDistinct};
 ghost use Rattle.std.specs.Str.{bytes_eq};
 ghost use Rattle.topology.specs.First.{IsRefusalOf};
@@ -7,12 +7,13 @@ ghost use Rattle.policy_files.specs.Seen.{texts_of};
 ghost use Rattle.policy_source.specs.Faults.{fault_of_sources};
 ghost use Rattle.fault_text.specs.Texts.{pair_of, fault_line};
 ghost use Rattle.policy_compile.specs.Seen.{written_of};
-ghost use Rattle.compile_core.specs.Outcome.{policy_in, outcome_of};
+ghost use Rattle.first_fault_laws.specs.Whole.{last_row};
+ghost use Rattle.source_laws.specs.Sources.{policy_in, outcome_of};
+ghost use Rattle.source_laws.specs.Table.{HaveNone, TellsFirst};
 ghost use Rattle.compile_core.specs.Exact.{AreExact, file_names};
 
 use bumpalo::Bump;
-use name_laws::files_have_distinct_names;
-use outcome_laws::accepted_policies_decide_exactly;
+use outcome_laws::{accepted_policies_decide_exactly, files_have_distinct_names};
 use policy_compile::Compiled;
 use policy_source::laws::declarations_are_formed_and_written;
 use policy_source::read_policy;
@@ -28,6 +29,8 @@ fn compile_said(alloc: Global, sources: &[Source], topo: Topo<'_>) -> Result<Com
     requires faultless { fault_of_sources (texts_of sources.now) ≡ None }
     ensures ok { IfOk result (λ c. outcome_of (map pair_of sources.now) ≡ Ok (written_of c)) }
     ensures refused { IfErr result (IsRefusalOf (λ fault. outcome_of (map pair_of sources.now) ≡ Err (fault_line (map pair_of sources.now) fault))) }
+    ensures clear { OnOk result (HaveNone (map pair_of sources.now) last_row) }
+    ensures first { IfErr result (IsRefusalOf (λ fault. TellsFirst (map pair_of sources.now) last_row (fault_line (map pair_of sources.now) fault))) }
     ensures exact { IfOk result (λ c. AreExact (map pair_of sources.now) (written_of c)) }
     ensures names { IfOk result (λ c. IsDistinct bytes_eq (file_names (written_of c))) }
 {
@@ -47,7 +50,9 @@ fn compile_said(alloc: Global, sources: &[Source], topo: Topo<'_>) -> Result<Com
 /// a declaration, a limit that is passed); of areas (one that is split); of tags (a conflict, a
 /// network that is translated twice, or in its own zone); of views (too many that differ, two networks
 /// with one prefix, an address at another network); of services (a managed router's interface as an
-/// end, too many permits); of walks (a permit that none carries, too many lines).
+/// end, too many permits); of walks (a permit that none carries, too many lines). The line that is
+/// told is that of the first fault of this whole table (`TellsFirst`), and a policy that is compiled
+/// has none (`HaveNone`).
 ///
 /// The files of a policy that is accepted are the texts of configurations that decide exactly
 /// (`AreExact`), and no two have one name, so that none is written over another.
@@ -55,6 +60,8 @@ pub fn compile(alloc: Global, sources: &[Source]) -> Result<Compiled, Refusal>
     requires { All (λ s. length s.text ≤ 4194304) sources.now }
     ensures ok { IfOk result (λ c. outcome_of (map pair_of sources.now) ≡ Ok (written_of c)) }
     ensures refused { IfErr result (IsRefusalOf (λ fault. outcome_of (map pair_of sources.now) ≡ Err (fault_line (map pair_of sources.now) fault))) }
+    ensures clear { OnOk result (HaveNone (map pair_of sources.now) last_row) }
+    ensures first { IfErr result (IsRefusalOf (λ fault. TellsFirst (map pair_of sources.now) last_row (fault_line (map pair_of sources.now) fault))) }
     ensures exact { IfOk result (λ c. AreExact (map pair_of sources.now) (written_of c)) }
     ensures names { IfOk result (λ c. IsDistinct bytes_eq (file_names (written_of c))) }
 {

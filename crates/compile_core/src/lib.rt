@@ -3,8 +3,6 @@
 #![tactic(auto)]
 
 mod compiling;
-#[cfg(test)]
-mod tests;
 
 pub use compiling::compile;
 pub use device_files::DeviceFile;

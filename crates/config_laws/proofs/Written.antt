@@ -4,7 +4,7 @@ use Rattle.std.specs.Prelude.{Option, Some, None, is_some}
 use Rattle.std.proofs.lemmas.Bool.{false≢true}
 use Rattle.policy_model.specs.Policy.{Policy, Router, Device, is_managed}
 use Rattle.policy_model.specs.Filters.{Line}
-use Rattle.policy_model.specs.Blocks.{is_ios_at, list_at}
+use Rattle.policy_model.specs.Blocks.{is_grouped_at, list_at}
 use Rattle.policy_model.specs.Optimised.{optimised_lines}
 use Rattle.policy_model.specs.Grouped.{grouped_lines}
 use Rattle.policy_model.specs.Routes.{lookup, is_static}
@@ -38,13 +38,13 @@ static_managed (x ∷ routers) zero h = go x.name x.device h
 
 lines_alike : (m : Meaning) → AreSecured m.site m.views (permits_in m) → (i : ℕ) → i < length m.site.policy.ifaces → (b : Bool) →
     PassAlike (list_at m.site m.views (permits_in m) i)
-    (cond b (optimised_lines (list_at m.site m.views (permits_in m) i)) (grouped_lines (optimised_lines (list_at m.site m.views (permits_in m) i))))
-lines_alike m ok i below true = (list_optimised m.site m.views (permits_in m) i (ok.lists i below)).alike
-lines_alike m ok i below false = written_alike m.site m.views (permits_in m) i (ok.lists i below)
+    (cond b (grouped_lines (optimised_lines (list_at m.site m.views (permits_in m) i))) (optimised_lines (list_at m.site m.views (permits_in m) i)))
+lines_alike m ok i below false = (list_optimised m.site m.views (permits_in m) i (ok.lists i below)).alike
+lines_alike m ok i below true = written_alike m.site m.views (permits_in m) i (ok.lists i below)
 
 pub decide : (m : Meaning) → AreSecured m.site m.views (permits_in m) → HaveLists m.site m.views (permits_in m) (written_configs m) × HaveTables m.site m.views (permits_in m) (written_configs m)
 decide m ok = (
-  λ i below managed. subst (λ (lines : List Line). PassAlike (list_at m.site m.views (permits_in m) i) lines) (sym (list_there m i below managed)) (lines_alike m ok i below (is_ios_at m.site.policy i)),
+  λ i below managed. subst (λ (lines : List Line). PassAlike (list_at m.site m.views (permits_in m) i) lines) (sym (list_there m i below managed)) (lines_alike m ok i below (is_grouped_at m.site.policy i)),
   λ r a fixed. ap (λ (c : Config). lookup m.site.policy r c.routes a) (config_there m r (static_managed m.site.policy.routers r fixed)),
 )
 

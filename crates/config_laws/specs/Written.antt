@@ -3,18 +3,18 @@ use Rattle.std.specs.Prelude.{ℕ, List, map, if◌then◌else◌}
 use Rattle.policy_model.specs.Policy.{managed_routers}
 use Rattle.policy_model.specs.Tags.{ifaces_of}
 use Rattle.policy_model.specs.Filters.{Line}
-use Rattle.policy_model.specs.Blocks.{is_ios_at, list_at}
+use Rattle.policy_model.specs.Blocks.{is_grouped_at, list_at}
 use Rattle.policy_model.specs.Optimised.{optimised_lines}
 use Rattle.policy_model.specs.Grouped.{grouped_lines}
 use Rattle.policy_model.specs.Routes.{route_table}
 use Rattle.policy_model.specs.Passing.{Config}
 use Rattle.policy_model.specs.Headline.{Meaning, permits_in}
 
--- the list at an interface, optimised, and grouped where it is of an ASA
+-- the list at an interface, optimised, and grouped where the router's dialect is
 abbrev pub written_lines : Meaning → ℕ → List Line
 written_lines m i =
     let lines = optimised_lines (list_at m.site m.views (permits_in m) i) in
-    if is_ios_at m.site.policy i then lines else grouped_lines lines
+    if is_grouped_at m.site.policy i then grouped_lines lines else lines
 
 -- the lists of a router's interfaces, in order, and its routes
 abbrev pub written_config : Meaning → ℕ → Config

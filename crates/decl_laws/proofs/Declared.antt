@@ -3,7 +3,7 @@ use Rattle.std.proofs.Common.{◌≡◌, inl, inr, refl, sym, ap, subst, true, L
 use Rattle.std.specs.Prelude.{flat_map}
 use Rattle.std.specs.List.{list_any}
 use Rattle.std.proofs.lemmas.Bool.{false≢true}
-use Rattle.spoc_ast.specs.Written.{Lexeme, PortText, NetPartText, NetNat, IfPartText, IfIp, IfHardware, IfBindNat, IfIdle, RoutPartText, RoutManaged, RoutModel, RoutRouting, RoutIface, RoutIdle, AreaPartText, AreaAnchor, AreaBorder, AreaIdle, AnyPartText, AnyLink, AnyIp, AnyIdle, DeclText, NetworkDecl, RouterDecl, AreaDecl, AggregateDecl, RestrictionDecl}
+use Rattle.spoc_ast.specs.Written.{Lexeme, PortText, NetPartText, NetNat, IfPartText, IfIp, IfHardware, IfBindNat, IfVirtual, IfIdle, RoutPartText, RoutManaged, RoutModel, RoutRouting, RoutIface, RoutIdle, AreaPartText, AreaAnchor, AreaBorder, AreaIdle, AnyPartText, AnyLink, AnyIp, AnyIdle, DeclText, NetworkDecl, RouterDecl, AreaDecl, AggregateDecl, RestrictionDecl}
 use Rattle.policy_decls.specs.Names.{NetworkName, TagName, RouterName, Mention, mention, mention_in, mention_port, names_in_net_part, names_in, declared_names}
 use Rattle.policy_decls.specs.Uses.{names_it, uses_in_if_part, uses_in_rout_part, uses_in_area_part, uses_in_any_part, uses_in}
 use Rattle.policy_decls.specs.Lookup.{IfaceText, ifaces_in_part, ifaces_in, declared_ifaces, is_managed_router, binds_in, iface_binds}
@@ -77,6 +77,7 @@ module _ (decls : List DeclText) where
     bound tag tags (IfBindNat own) (inr g) h = absurd g
     bound tag tags (IfIp address) g h = absurd g
     bound tag tags (IfHardware hardware) g h = absurd g
+    bound tag tags (IfVirtual parts) g h = absurd g
     bound tag tags (IfIdle idle) g h = absurd g
 
     pub iface_tag : (i : IfaceText) → IsIfaceOf decls i → (tags : List Lexeme) (tag : Lexeme) → IsIn tags (iface_binds i) → IsIn tag tags → IsDeclared decls (mention TagName tag)

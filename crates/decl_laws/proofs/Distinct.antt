@@ -20,6 +20,7 @@ use Rattle.decl_laws.proofs.Places.{get_in, AreApart, filter_apart, apart_by, ap
 use Rattle.decl_laws.proofs.Taken.{IsFaultless, each_faultless, apart_names}
 use Rattle.decl_laws.proofs.NamesByKind.{is_of, texts, net_names, host_names, router_names, restriction_names, group_names, area_names, aggregate_names, service_names, tag_texts, iface_mention, iface_names}
 use Rattle.decl_laws.proofs.NameNumbers.{bytes_same, bytes_alike, says_it, HasNumber, name_number, name_back, kind_onward, kind_back}
+use Rattle.decl_laws.proofs.Implied.{declared_are}
 use Rattle.decl_laws.proofs.Declared.{iface_of_decl, iface_router, iface_net}
 
 -- ---- lists of texts
@@ -138,7 +139,7 @@ module _ (decls : List DeclText) (apart : AreApart same_name (declared_names dec
       routers = subst AreDistinct (sym (router_names decls)) (distinct_kind RouterName refl refl);
       ifaces = distinct_ifaces;
       tags = subst AreDistinct (sym (tag_texts decls)) distinct_tags;
-      restrictions = subst AreDistinct (sym (restriction_names decls)) (distinct_kind RestrictionName refl refl);
+      restrictions = subst AreDistinct (sym (ap (map (λ x. x.name)) (declared_are decls) ∙ restriction_names decls)) (distinct_kind RestrictionName refl refl);
       groups = subst AreDistinct (sym (group_names decls)) (distinct_kind GroupName refl refl);
       areas = subst AreDistinct (sym (area_names decls)) (distinct_kind AreaName refl refl);
       aggregates = subst AreDistinct (sym (aggregate_names decls)) (distinct_kind AggregateName refl refl);

@@ -1,24 +1,24 @@
 -- Interfaces: their addresses, hardware and tags.
-use Rattle.std.proofs.Common.{◌≡◌, ℕ, suc, ◌<◌, ◌⊎◌, inl, inr, Bool, true, false, not, ◌||◌, ◌&&◌, List, [], ◌∷◌, ◌++◌, length, map, refl, sym, ap, subst, ◌∙◌, ⊎_elim, arith}
+use Rattle.std.proofs.Common.{◌≡◌, ◌≢◌, ℕ, suc, ◌<◌, ◌⊎◌, inl, inr, Bool, true, false, not, ◌||◌, ◌&&◌, List, [], ◌∷◌, ◌++◌, length, map, refl, sym, ap, subst, ◌∙◌, ⊎_elim, arith}
 use Rattle.std.specs.Prelude.{Option, Some, None, is_some, flat_map, option_and_then}
 use Rattle.std.specs.Str.{bytes_eq}
 use Rattle.std.specs.List.{list_any, list_all, slice_get}
 use Rattle.std.proofs.lemmas.List.{length-map, append-nil}
 use Rattle.std.proofs.lemmas.Option.{none-some, cond_some}
 use Rattle.std.proofs.lemmas.Bool.{false≢true, or_parts, or_left, or_right, and_from, and_cases, not-true, not-false, not_from_false, ltb-false, cases_order}
-use Rattle.spoc_base.specs.Address.{prefix_holds}
+use Rattle.spoc_base.specs.Address.{Cidr, prefix_holds}
 use Rattle.policy_model.specs.Lists.{is_nothing, are_distinct}
 use Rattle.policy_model.specs.Policy.{Iface, no_iface, net_of, iface_of, net_at, router_at, is_managed}
 use Rattle.policy_model.proofs.AllWalks.{IsIn, in_flat_map, in_map}
 use Rattle.list_laws.proofs.Members.{each_in, some_of, in_either}
 use Rattle.list_laws.proofs.Tables.{from_flat_map}
-use Rattle.spoc_ast.specs.Written.{Lexeme, NetPartText, IfPartText, IfIp, IfHardware, IfBindNat, IfIdle, RoutPartText, RoutManaged, RoutModel, RoutRouting, RoutIface, RoutIdle, DeclText, NetworkDecl, RouterDecl, GroupDecl, AreaDecl, AggregateDecl, ProtocolDecl, ProtocolGroupDecl, RestrictionDecl, ServiceDecl}
+use Rattle.spoc_ast.specs.Written.{Lexeme, NetPartText, VirtPartText, IfPartText, IfIp, IfHardware, IfBindNat, IfVirtual, IfIdle, RoutPartText, RoutManaged, RoutModel, RoutRouting, RoutIface, RoutIdle, DeclText, NetworkDecl, RouterDecl, GroupDecl, AreaDecl, AggregateDecl, ProtocolDecl, ProtocolGroupDecl, RestrictionDecl, ServiceDecl}
 use Rattle.policy_decls.specs.Numbers.{address_of, holds_of}
 use Rattle.policy_decls.specs.Names.{NetworkName, RouterName, TagName, Mention, mention, names_in, names_in_rout_part}
 use Rattle.policy_decls.specs.Uses.{used_names, uses_in, uses_in_rout_part, uses_in_if_part}
 use Rattle.policy_decls.specs.Lookup.{first_given, or_nothing, network_called, network_parts, own_prefix, aligned, is_managed_router, IfaceText, ifaces_in_part, ifaces_in, declared_ifaces, addresses_in, hardware_in, binds_in, iface_addresses, iface_hardware, iface_binds}
-use Rattle.policy_decls.specs.Shapes.{has_two, same_texts, share, is_bad_iface, is_outside, has_address_of, has_hardware_of, is_bad_binding, clash_with}
-use Rattle.policy_decls.specs.Said.{number_of_tag, text_or_none, cidr_or_any, policy_said, iface_said}
+use Rattle.policy_decls.specs.Shapes.{has_two, same_texts, share, is_bad_iface, is_outside, has_address_of, has_hardware_of, is_bad_binding, virtuals_in, iface_virtuals, ips_in_virtual, is_outside_net, is_taken, is_bad_virtual, is_bad_shared, clash_with}
+use Rattle.policy_decls.specs.Said.{number_of_tag, shared_in, iface_shared, text_or_none, cidr_or_any, policy_said, iface_said}
 use Rattle.policy_decls.specs.Formed.{is_formed_iface, is_formed_router, are_formed}
 use Rattle.decl_laws.proofs.Rows.{HasNoFault}
 use Rattle.decl_laws.proofs.Cuts.{flat_cut, in_cut, no_clash}
@@ -37,7 +37,7 @@ given_in_step : {D Z : Type 0} (c : D → Option Z) (d : D) (ds : List D) (z : Z
 given_in_step c d ds z None e later h = let w = later (sym (given_later c d ds e) ∙ h) in (w.0, inr w.1, w.2)
 given_in_step c d ds z (Some y) e later h = (d, inl refl, e ∙ sym (given_here c d ds y e) ∙ h)
 
-given_in : {D Z : Type 0} (c : D → Option Z) (ds : List D) (z : Z) → first_given c ds ≡ Some z → (d : D) × IsIn d ds × (c d ≡ Some z)
+pub given_in : {D Z : Type 0} (c : D → Option Z) (ds : List D) (z : Z) → first_given c ds ≡ Some z → (d : D) × IsIn d ds × (c d ≡ Some z)
 given_in c [] z h = absurd (none-some z h)
 given_in c (d ∷ ds) z h = given_in_step c d ds z (c d) refl (given_in c ds z) h
 
@@ -88,6 +88,7 @@ address_in_part (IfIp address) w (inl e) f = ap (λ (x : Lexeme). is_some (addre
 address_in_part (IfIp address) w (inr h) f = absurd h
 address_in_part (IfHardware hardware) w h f = absurd h
 address_in_part (IfBindNat tags) w h f = absurd h
+address_in_part (IfVirtual parts) w h f = absurd h
 address_in_part (IfIdle idle) w h f = absurd h
 
 hardware_in_part : (part : IfPartText) (w : Lexeme) → IsIn w (hardware_in part) → is_formed_iface part ≡ true → is_nothing w.text ≡ false
@@ -95,6 +96,7 @@ hardware_in_part (IfIp address) w h f = absurd h
 hardware_in_part (IfHardware hardware) w (inl e) f = ap (λ (x : Lexeme). is_nothing x.text) e ∙ not-true (is_nothing hardware.text) f
 hardware_in_part (IfHardware hardware) w (inr h) f = absurd h
 hardware_in_part (IfBindNat tags) w h f = absurd h
+hardware_in_part (IfVirtual parts) w h f = absurd h
 hardware_in_part (IfIdle idle) w h f = absurd h
 
 tags_in_part : (part : IfPartText) (tags : List Lexeme) → IsIn tags (binds_in part) → (t : Lexeme) → IsIn t tags → IsIn (mention TagName t) (uses_in_if_part part)
@@ -102,6 +104,7 @@ tags_in_part (IfIp address) tags h t g = absurd h
 tags_in_part (IfHardware hardware) tags h t g = absurd h
 tags_in_part (IfBindNat its_tags) tags (inl e) t g = in_map (mention TagName) t its_tags (subst (λ l. IsIn t l) e g)
 tags_in_part (IfBindNat its_tags) tags (inr h) t g = absurd h
+tags_in_part (IfVirtual parts) tags h t g = absurd h
 tags_in_part (IfIdle idle) tags h t g = absurd h
 
 some_first : {X : Type 0} (xs : List X) → is_nothing xs ≡ false → (x : X) × (slice_get xs 0 ≡ Some x)
@@ -117,6 +120,41 @@ at_most_one (x ∷ y ∷ xs) h = absurd (omega (arith, ltb-false 1 (suc (suc (le
 shared : (vs ws : List Lexeme) (v w : Lexeme) → IsIn v vs → IsIn w ws → v.text ≡ w.text → share vs ws ≡ true
 shared vs ws v w h g e = some_of (λ x. list_any (same_texts x) ws) v vs h (some_of (same_texts v) w ws g (same_to v.text w.text e))
 
+-- a word of a shared address stands in its parts
+shared_word : (parts : List IfPartText) (w : Lexeme) → IsIn w (flat_map shared_in parts) → (vs : List VirtPartText) × IsIn vs (flat_map virtuals_in parts) × IsIn w (flat_map ips_in_virtual vs)
+shared_word parts w h = let v = from_flat_map shared_in w parts h in by v.0 v.1 v.2
+  where
+    by : (part : IfPartText) → IsIn part parts → IsIn w (shared_in part) → (vs : List VirtPartText) × IsIn vs (flat_map virtuals_in parts) × IsIn w (flat_map ips_in_virtual vs)
+    by (IfIp address) g i = absurd i
+    by (IfHardware hardware) g i = absurd i
+    by (IfBindNat tags) g i = absurd i
+    by (IfVirtual vs) g i = (vs, in_flat_map virtuals_in (IfVirtual vs) vs parts g (inl refl), i)
+    by (IfIdle idle) g i = absurd i
+
+-- a shared address that isn't bad has one word, which is its network's and no interface's there
+good_virtual : (decls : List DeclText) (net : Lexeme) (vs : List VirtPartText) (ips : List Lexeme) → flat_map ips_in_virtual vs ≡ ips → is_bad_virtual decls net vs ≡ false →
+    (w : Lexeme) × (ips ≡ w ∷ []) × (is_outside_net decls net w ≡ false) × (is_taken decls net w ≡ false)
+good_virtual decls net vs [] e h = absurd (false≢true (sym h ∙ none))
+  where
+    none : is_bad_virtual decls net vs ≡ true
+    none = rw e refl
+good_virtual decls net vs (w ∷ []) e h = let both = or_parts (is_outside_net decls net w) (is_taken decls net w) (sym one ∙ h) in (w, refl, both.0, both.1)
+  where
+    one : is_bad_virtual decls net vs ≡ (is_outside_net decls net w || is_taken decls net w)
+    one = rw e refl
+good_virtual decls net vs (v ∷ w ∷ ws) e h = absurd (false≢true (sym h ∙ more))
+  where
+    more : is_bad_virtual decls net vs ≡ true
+    more = rw e refl
+
+alone : {X : Type 0} (x y : X) → IsIn x (y ∷ []) → x ≡ y
+alone x y (inl e) = e
+alone x y (inr h) = absurd h
+
+filled : {X : Type 0} (xs : List X) (x : X) → IsIn x xs → is_nothing xs ≡ false
+filled [] x h = absurd h
+filled (y ∷ ys) x h = refl
+
 -- what must not stand in an interface is absent
 record IfaceShape (decls : List DeclText) (x : IfaceText) : Type 0 where
   one_bind : has_two (iface_binds x) ≡ false
@@ -124,14 +162,15 @@ record IfaceShape (decls : List DeclText) (x : IfaceText) : Type 0 where
   inside : is_outside decls x ≡ false
   binds_managed : (not x.managed && not (is_nothing (iface_binds x))) ≡ false
   tags_once : list_any (λ tags. clash_with same_texts [] tags) (iface_binds x) ≡ false
+  shared : is_bad_shared decls x ≡ false
 
-shape_parts : (decls : List DeclText) (x : IfaceText) → is_bad_iface x ≡ false → is_outside decls x ≡ false → is_bad_binding x ≡ false → IfaceShape decls x
-shape_parts decls x bad outside binding =
+shape_parts : (decls : List DeclText) (x : IfaceText) → is_bad_iface x ≡ false → is_outside decls x ≡ false → is_bad_binding x ≡ false → is_bad_shared decls x ≡ false → IfaceShape decls x
+shape_parts decls x bad outside binding shared =
     let a = or_parts (has_two (iface_addresses x)) _ bad in
     let b = or_parts (has_two (iface_hardware x)) _ a.1 in
     let c = or_parts (has_two (iface_binds x)) _ b.1 in
     let d = or_parts (not x.managed && not (is_nothing (iface_binds x))) _ binding in
-    record { one_bind = c.0; equipped = c.1; inside = outside; binds_managed = d.0; tags_once = d.1 }
+    record { one_bind = c.0; equipped = c.1; inside = outside; binds_managed = d.0; tags_once = d.1; shared = shared }
 
 module _ (decls : List DeclText) (formed : are_formed decls ≡ true) (no_fault : HasNoFault decls) where
   -- the interface that is declared at a number
@@ -153,6 +192,7 @@ module _ (decls : List DeclText) (formed : are_formed decls ≡ true) (no_fault 
       let s = shape_of decls no_fault.shape w.0 w.1 in
       let r = router_shape decls s.0 w.0 s.1 in
       shape_parts decls x (none_in is_bad_iface (ifaces_in w.0) r.parts x w.2) (none_in (is_outside decls) (ifaces_in w.0) r.inside x w.2) (none_in is_bad_binding (ifaces_in w.0) r.binds x w.2)
+      (none_in (is_bad_shared decls) (ifaces_in w.0) r.shared x w.2)
 
   iface_formed : (x : IfaceText) → IsIn x (declared_ifaces decls) → list_all is_formed_iface x.parts ≡ true
   iface_formed x h =
@@ -226,25 +266,37 @@ module _ (decls : List DeclText) (formed : are_formed decls ≡ true) (no_fault 
       let v = first_address (iface_addresses w.iface) a (sym (ap (λ (y : Iface). y.addr) w.said) ∙ e) in
       record { word = v.0; there = v.1; value = v.2 }
 
-  pub addresses_stay : (i a : ℕ) → i < length (policy_said decls).ifaces → (iface_of (policy_said decls) i).addr ≡ Some a →
-      prefix_holds (net_of (policy_said decls) (net_at (policy_said decls) i)).own a ≡ true
-  addresses_stay i a below e =
+  -- the own prefix of the network of an interface
+  record ItsPrefix (i : ℕ) (x : IfaceText) : Type 0 where
+    prefix : Cidr
+    declared : own_prefix (network_parts decls x.net.text) ≡ Some prefix
+    said : (net_of (policy_said decls) (net_at (policy_said decls) i)).own ≡ aligned prefix
+
+  its_prefix : (i : ℕ) (w : IfaceThere i) → ItsPrefix i w.iface
+  its_prefix i w =
       let p = policy_said decls in
-      let w = iface_there i below in
       let x : IfaceText = w.iface in
-      let v = its_address i w a e in
       let f = net_found decls x.net (known_number decls no_fault.unknown (mention NetworkName x.net) (net_known x w.there)) in
       let g = given_in (network_called x.net.text) decls f.thing f.given in
       let c = called decls x.net.text f.thing g.0 g.1 g.2 in
       let net = net_there decls formed no_fault c.name c.desc f.thing c.decl in
-      let outside = (iface_shape x w.there).inside in
-      let own : own_prefix (network_parts decls x.net.text) ≡ Some net.own.prefix = ap (λ o. own_prefix (or_nothing o)) f.given ∙ net.own.is in
-      let words = holds_at _ (own_prefix (network_parts decls x.net.text)) net.own.prefix own outside in
-      let word = none_in (λ (u : Lexeme). holds_of (λ b. not (prefix_holds (aligned net.own.prefix) b)) (address_of u.text)) (iface_addresses x) words v.word v.there in
-      let inside = not-false (prefix_holds (aligned net.own.prefix) a) (holds_at _ (address_of v.word.text) a v.value word) in
-      let prefix : (net_of p (net_at p i)).own ≡ aligned net.own.prefix =
-      ap (λ (y : Iface). (net_of p y.net).own) w.said ∙ f.same ∙ ap cidr_or_any net.own.is ∙ sym net.own.whole in
-      ap (λ q. prefix_holds q a) prefix ∙ inside
+      record {
+        prefix = net.own.prefix;
+        declared = ap (λ o. own_prefix (or_nothing o)) f.given ∙ net.own.is;
+        said = ap (λ (y : Iface). (net_of p y.net).own) w.said ∙ f.same ∙ ap cidr_or_any net.own.is ∙ sym net.own.whole;
+      }
+
+  pub addresses_stay : (i a : ℕ) → i < length (policy_said decls).ifaces → (iface_of (policy_said decls) i).addr ≡ Some a →
+      prefix_holds (net_of (policy_said decls) (net_at (policy_said decls) i)).own a ≡ true
+  addresses_stay i a below e =
+      let w = iface_there i below in
+      let x : IfaceText = w.iface in
+      let v = its_address i w a e in
+      let own = its_prefix i w in
+      let words = holds_at _ (own_prefix (network_parts decls x.net.text)) own.prefix own.declared (iface_shape x w.there).inside in
+      let word = none_in (λ (u : Lexeme). holds_of (λ b. not (prefix_holds (aligned own.prefix) b)) (address_of u.text)) (iface_addresses x) words v.word v.there in
+      let inside = not-false (prefix_holds (aligned own.prefix) a) (holds_at _ (address_of v.word.text) a v.value word) in
+      ap (λ q. prefix_holds q a) own.said ∙ inside
 
   -- ---- two interfaces
 
@@ -301,6 +353,55 @@ module _ (decls : List DeclText) (formed : are_formed decls ≡ true) (no_fault 
       (iface_of (policy_said decls) i).addr ≡ Some a → (iface_of (policy_said decls) j).addr ≡ Some a → i ≡ j
   addresses_differ i j a low high nets e f =
       ⊎_elim (λ same. same) (λ other. ⊎_elim (λ lt. absurd (one_address i j a low high lt nets e f)) (λ gt. absurd (one_address j i a high low gt (sym nets) f e)) other) (cases_order i j)
+
+  -- ---- shared addresses
+
+  -- the word of the address that an interface shares
+  record SharesAddress (x : IfaceText) (a : ℕ) : Type 0 where
+    word : Lexeme
+    value : address_of word.text ≡ Some a
+    managed : x.managed ≡ true
+    inside : is_outside_net decls x.net word ≡ false
+    free : is_taken decls x.net word ≡ false
+
+  its_shared : (i : ℕ) (w : IfaceThere i) (a : ℕ) → (iface_of (policy_said decls) i).shared ≡ Some a → SharesAddress w.iface a
+  its_shared i w a e =
+      let x : IfaceText = w.iface in
+      let v = first_address (iface_shared x) a (sym (ap (λ (y : Iface). y.shared) w.said) ∙ e) in
+      let u = shared_word x.parts v.0 v.1 in
+      let s = or_parts (has_two (iface_virtuals x)) _ (iface_shape x w.there).shared in
+      let t = or_parts (not x.managed && not (is_nothing (iface_virtuals x))) _ s.1 in
+      let good = good_virtual decls x.net u.0 (flat_map ips_in_virtual u.0) refl (none_in (is_bad_virtual decls x.net) (iface_virtuals x) t.1 u.0 u.1) in
+      let same : v.0 ≡ good.0 = alone v.0 good.0 (subst (λ (ws : List Lexeme). IsIn v.0 ws) good.1 u.2) in
+      record {
+        word = v.0;
+        value = v.2;
+        managed = not-false x.managed
+            (⊎_elim (λ f. f) (λ f. absurd (false≢true (sym f ∙ ap (λ b. not b) (filled (iface_virtuals x) u.0 u.1)))) (and_cases (not x.managed) (not (is_nothing (iface_virtuals x))) t.0));
+        inside = ap (is_outside_net decls x.net) same ∙ good.2;
+        free = ap (is_taken decls x.net) same ∙ good.3;
+      }
+
+  pub shares_hold : (i a : ℕ) → i < length (policy_said decls).ifaces → (iface_of (policy_said decls) i).shared ≡ Some a →
+      (is_managed (policy_said decls) (router_at (policy_said decls) i) ≡ true) × (prefix_holds (net_of (policy_said decls) (net_at (policy_said decls) i)).own a ≡ true)
+      × ((j : ℕ) → j < length (policy_said decls).ifaces → net_at (policy_said decls) j ≡ net_at (policy_said decls) i → (iface_of (policy_said decls) j).addr ≢ Some a)
+  shares_hold i a below e =
+      let w = iface_there i below in
+      let x : IfaceText = w.iface in
+      let v = its_shared i w a e in
+      let own = its_prefix i w in
+      let word = holds_at _ (own_prefix (network_parts decls x.net.text)) own.prefix own.declared v.inside in
+      let inside = not-false (prefix_holds (aligned own.prefix) a) (holds_at _ (address_of v.word.text) a v.value word) in (
+        managed_there i w ∙ v.managed,
+        ap (λ q. prefix_holds q a) own.said ∙ inside,
+        (λ j high nets f. let u = iface_there j high in
+            let y : IfaceText = u.iface in
+            let b = its_address j u a f in
+            let spelled = one_spelling v.word.text b.word.text a v.value b.value in
+            false≢true (sym (none_in (λ k. same_texts x.net k.net && list_any (same_texts v.word) (iface_addresses k)) (declared_ifaces decls) v.free y u.there)
+            ∙ and_from (same_texts x.net y.net) (list_any (same_texts v.word) (iface_addresses y)) (same_to x.net.text y.net.text (same_net j i u w nets))
+            (some_of (same_texts v.word) b.word (iface_addresses y) b.there (same_to v.word.text b.word.text spelled)))),
+      )
 
   -- ---- hardware
 

@@ -1,4 +1,5 @@
 pub mod Rows
+pub mod Sharing
 pub mod Cuts
 pub mod Absent
 pub mod Found
@@ -21,3 +22,6 @@ pub mod Stands
 pub mod SoundSets
 pub mod Chains
 pub mod Limited
+pub mod Implied
+pub mod Spelled
+pub mod Plain

@@ -7,7 +7,7 @@ use Rattle.std.proofs.lemmas.Option.{none-some}
 use Rattle.std.proofs.lemmas.List.Filters.{length-filter_both}
 use Rattle.spoc_base.specs.declared.fault.LimitWord.{LimitWord}
 use Rattle.spoc_base.specs.declared.fault.LimitWord.TheVariants.{Networks, Routers, Interfaces, Hosts, Services, Names, Nesting}
-use Rattle.topology.specs.Sound.{IsLimited, is_short}
+use Rattle.topology.specs.Sound.{IsLimited, is_short, HasImplied}
 use Rattle.policy_model.specs.Lists.{once_each}
 use Rattle.policy_model.specs.Policy.{Router, Iface, no_router, is_managed, managed_routers}
 use Rattle.spoc_ast.specs.Written.{Lexeme, DeclText, RouterDecl}
@@ -15,7 +15,7 @@ use Rattle.policy_decls.specs.Names.{NameKind, NetworkName, HostName, TagName, R
 use Rattle.policy_decls.specs.Lookup.{declared_ifaces, iface_hardware, is_managed_router}
 use Rattle.policy_decls.specs.Nesting.{nesting_names, nests}
 use Rattle.policy_decls.specs.Limits.{count_of, declares_managed, managed_count, has_long_name, nest_too_deep, first_word, limit_passed}
-use Rattle.policy_decls.specs.Said.{same_text, names_of, tag_names, device_in, adds_of, text_or_none, iface_said, policy_said}
+use Rattle.policy_decls.specs.Said.{same_text, names_of, tag_names, device_in, adds_of, text_or_none, iface_said, restrictions_declared, policy_said}
 use Rattle.policy_decls.specs.Faults.{fault_of}
 use Rattle.policy_decls.specs.Formed.{are_formed}
 use Rattle.policy_model.proofs.AllWalks.{IsIn, in_map, in_flat_map, from_map}
@@ -25,6 +25,7 @@ use Rattle.decl_laws.proofs.Places.{all_from, get_in, none_passes, filter_flat_m
 use Rattle.decl_laws.proofs.Taken.{IsFaultless, each_faultless}
 use Rattle.decl_laws.proofs.NamesByKind.{is_of, texts, as_many, net_names, host_names, router_names, restriction_names, group_names, area_names, aggregate_names, service_names, tag_texts}
 use Rattle.decl_laws.proofs.NameNumbers.{tag_kind, iface_count}
+use Rattle.decl_laws.proofs.Implied.{has_implied, few_restrictions}
 use Rattle.decl_laws.proofs.Stands.{device_there}
 use Rattle.decl_laws.proofs.Chains.{no_long_chain}
 
@@ -161,6 +162,9 @@ module _ (decls : List DeclText) where
         by (Some v) each =
             le-leb (length v.text) 100 (ltb-false 100 (length v.text) (none_passes (λ u. nat_lt 100 (length u.text)) (flat_map iface_hardware (declared_ifaces decls)) w.hardware v (each v refl)))
 
+    pub short_restrictions : list_all (λ x. is_short x.name) (restrictions_declared decls) ≡ true
+    short_restrictions = short_names (restrictions_declared decls) (λ x. x.name) (names_of decls RestrictionName) (restriction_names decls) (of_kind RestrictionName)
+
     pub all_limited : ((d : DeclText) → IsIn d decls → IsFaultless decls d) → length (declared_names decls) < 2 ^ 32 → IsLimited (policy_said decls)
     all_limited faultless few =
         let p = policy_said decls in
@@ -172,7 +176,7 @@ module _ (decls : List DeclText) where
           ifaces = subst (λ n. n ≤ 65535) (sym (iface_count decls)) (ltb-false 65535 (count_of decls IfaceName) w.ifaces);
           services = count_within p.services (λ x. x.name) ServiceName (service_names decls) 65535 w.services;
           tags = few_tags (2 ^ 32) few;
-          restrictions = few_of p.restrictions (λ x. x.name) RestrictionName (restriction_names decls) (2 ^ 32) few;
+          restrictions = few_restrictions decls (2 ^ 32) few;
           groups = few_of p.groups (λ x. x.name) GroupName (group_names decls) (2 ^ 32) few;
           areas = few_of p.areas (λ x. x.name) AreaName (area_names decls) (2 ^ 32) few;
           aggregates = few_of p.aggregates (λ x. x.name) AggregateName (aggregate_names decls) (2 ^ 32) few;
@@ -181,7 +185,6 @@ module _ (decls : List DeclText) where
           router_names = short_names p.routers (λ x. x.name) (names_of decls RouterName) (router_names decls) (of_kind RouterName);
           hardware_names = all_from (λ x. is_short x.hardware) p.ifaces short_hardware;
           tag_names = short_names p.tags (λ x. x.name) (tag_names decls) (tag_texts decls) (λ m h. of_kind TagName m (tag_kind decls m h));
-          restriction_names = short_names p.restrictions (λ x. x.name) (names_of decls RestrictionName) (restriction_names decls) (of_kind RestrictionName);
           group_names = short_names p.groups (λ x. x.name) (names_of decls GroupName) (group_names decls) (of_kind GroupName);
           area_names = short_names p.areas (λ x. x.name) (names_of decls AreaName) (area_names decls) (of_kind AreaName);
           aggregate_names = short_names p.aggregates (λ x. x.name) (names_of decls AggregateName) (aggregate_names decls) (of_kind AggregateName);
@@ -191,3 +194,6 @@ module _ (decls : List DeclText) where
 
 pub limits_kept : (decls : List DeclText) → IsTrue (are_formed decls) → fault_of decls ≡ None → length (declared_names decls) < 2 ^ 32 → IsLimited (policy_said decls)
 limits_kept decls formed none few = let h = no_rows decls none in all_limited decls (within decls h.limit) (each_faultless decls formed h) few
+
+pub implied_kept : (decls : List DeclText) → fault_of decls ≡ None → HasImplied (policy_said decls)
+implied_kept decls none = has_implied decls (short_restrictions decls (within decls (no_rows decls none).limit))

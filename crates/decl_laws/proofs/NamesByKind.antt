@@ -5,7 +5,7 @@ use Rattle.std.proofs.Math.ListN.{length-map}
 use Rattle.spoc_ast.specs.Written.{Lexeme, NetPartText, NetIp, NetHost, NetNat, NetIdle, RoutPartText, RoutManaged, RoutModel, RoutRouting, RoutIface, RoutIdle, DeclText, NetworkDecl, RouterDecl}
 use Rattle.policy_decls.specs.Names.{NameKind, NetworkName, HostName, TagName, RouterName, IfaceName, GroupName, AreaName, AggregateName, RestrictionName, ServiceName, same_kind, Mention, mention, mention_in, mention_port, names_in_net_part, names_in_rout_part, names_in}
 use Rattle.policy_decls.specs.Lookup.{IfaceText, ifaces_in_part, ifaces_in, declared_ifaces, is_managed_router}
-use Rattle.policy_decls.specs.Said.{names_of, tag_names, hosts_said, adds_of, number_of_name, policy_said}
+use Rattle.policy_decls.specs.Said.{names_of, tag_names, hosts_said, adds_of, number_of_name, restrictions_declared, policy_said}
 use Rattle.decl_laws.proofs.Places.{filter_flat_map, map_flat_map, flat_map_same}
 
 abbrev pub is_of : NameKind → Mention → Bool
@@ -65,7 +65,7 @@ module _ (decls : List DeclText) where
   restriction_texts (RouterDecl name desc parts) = ap texts (sym (no_names_in_router RestrictionName refl name parts))
   restriction_texts _ = refl
 
-  pub restriction_names : map (λ x. x.name) (policy_said decls).restrictions ≡ texts (names_of decls RestrictionName)
+  pub restriction_names : map (λ x. x.name) (restrictions_declared decls) ≡ texts (names_of decls RestrictionName)
   restriction_names = along (λ d. (adds_of decls d).restrictions) (λ x. x.name) RestrictionName restriction_texts decls
 
   group_texts : (d : DeclText) → map (λ x. x.name) (adds_of decls d).groups ≡ texts (filter (is_of GroupName) (names_in d))

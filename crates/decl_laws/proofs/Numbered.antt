@@ -1,19 +1,22 @@
 -- Each number in the policy is that of a thing that is declared.
-use Rattle.std.proofs.Common.{◌≡◌, inl, inr, refl, sym, ap, subst, ℕ, ◌<◌, true, List, [], ◌∷◌, length, map, Option, Some, None, nat_lt, IfSome, not, arith}
+use Rattle.std.proofs.Common.{◌≡◌, inl, inr, refl, sym, ap, subst, ⊎_elim, ℕ, ◌<◌, true, List, [], ◌∷◌, length, map, Option, Some, None, nat_lt, IfSome, not, arith}
 use Rattle.std.specs.Prelude.{IsTrue, flat_map, slice_get, option_map}
 use Rattle.std.proofs.lemmas.Bool.{lt-ltb, or_parts, not-false, eqb-true}
 use Rattle.topology.specs.Sound.{IsNumbered, are_below}
+use Rattle.policy_model.specs.Walks.{shared_sets}
 use Rattle.policy_model.specs.Policy.{Net, Host, Iface, Restriction, Area, Aggregate, no_net, no_host, no_iface, no_area, no_aggregate}
 use Rattle.spoc_ast.specs.Written.{Lexeme, NetPartText, NetIp, NetHost, NetNat, NetIdle, AnyPartText, DeclText, NetworkDecl, AreaDecl, AggregateDecl, RestrictionDecl}
 use Rattle.policy_decls.specs.Names.{NetworkName, mention}
 use Rattle.policy_decls.specs.Lookup.{declared_ifaces, iface_binds}
 use Rattle.policy_decls.specs.Shapes.{anchors_in, borders_in, links_in, ips_in_any_part, has_one, has_two, is_bad_aggregate}
-use Rattle.policy_decls.specs.Said.{number_of_name, number_of_tag, number_of_port, nats_said, hosts_said, adds_of, iface_said, or_zero, policy_said}
+use Rattle.policy_decls.specs.Said.{number_of_name, number_of_tag, number_of_port, nats_said, hosts_said, adds_of, iface_said, or_zero, restrictions_declared, policy_declared, implied_by, restrictions_implied, policy_said}
 use Rattle.policy_decls.specs.Faults.{fault_of}
 use Rattle.policy_decls.specs.Formed.{are_formed}
 use Rattle.policy_model.proofs.AllWalks.{IsIn, from_map}
+use Rattle.list_laws.proofs.Members.{in_either}
 use Rattle.list_laws.proofs.Tables.{from_flat_map}
 use Rattle.decl_laws.proofs.Rows.{no_rows}
+use Rattle.decl_laws.proofs.Sharing.{is_sharing, set_shared}
 use Rattle.decl_laws.proofs.Places.{at_each, all_from, get_in}
 use Rattle.decl_laws.proofs.Taken.{IsFaultless, each_faultless, row_clear}
 use Rattle.decl_laws.proofs.NameNumbers.{net_below, router_below, port_below, tag_below}
@@ -94,6 +97,13 @@ module _ (decls : List DeclText) (faultless : (d : DeclText) → IsIn d decls �
   members_below (RestrictionDecl name desc ports) g x (inr h) = absurd h
   members_below _ g x h = absurd h
 
+  implied_below : (x : Restriction) → IsIn x (restrictions_implied (policy_declared decls)) → are_below (length (policy_said decls).ifaces) x.members ≡ true
+  implied_below x h =
+      let p = policy_said decls in
+      let v = from_map (implied_by (policy_declared decls)) x (shared_sets p) h in
+      let s = set_shared p v.0 v.1 in
+      subst (λ y. are_below (length p.ifaces) y.members ≡ true) (sym v.2) (below_all (length p.ifaces) v.0 (λ n g. (is_sharing p n (s.each n g)).0))
+
   if_mapped : {A B : Type 0} (P : B → Type 0) (f : A → B) (o : Option A) → ((x : A) → o ≡ Some x → P (f x)) → IfSome (option_map f o) P
   if_mapped P f None h = tt
   if_mapped P f (Some x) h = h x refl
@@ -137,7 +147,9 @@ module _ (decls : List DeclText) (faultless : (d : DeclText) → IsIn d decls �
         hosts = at_each (λ x. x.net < net_count) p.hosts no_host (λ x h. let w = from_flat_map (λ d. (adds_of decls d).hosts) x decls h in hosts_below w.0 w.1 x w.2);
         placed = at_each (λ x. (x.net < net_count) × (x.router < length p.routers)) p.ifaces no_iface placed_iface;
         binds = at_each (λ x. are_below (length p.tags) x.binds ≡ true) p.ifaces no_iface binds_below;
-        restrictions = all_from (λ r. are_below (length p.ifaces) r.members) p.restrictions (λ x h. let w = from_flat_map (λ d. (adds_of decls d).restrictions) x decls h in members_below w.0 w.1 x w.2);
+        restrictions = all_from (λ r. are_below (length p.ifaces) r.members) p.restrictions (λ x h. ⊎_elim
+            (λ g. let w = from_flat_map (λ d. (adds_of decls d).restrictions) x decls g in members_below w.0 w.1 x w.2) (implied_below x)
+            (in_either x (restrictions_declared decls) (restrictions_implied (policy_declared decls)) h));
         anchors = at_each (λ x. IfSome x.anchor (λ n. n < net_count)) p.areas no_area (λ x h. let w = from_flat_map (λ d. (adds_of decls d).areas) x decls h in anchor_below w.0 w.1 x w.2);
         borders = at_each (λ x. are_below (length p.ifaces) x.borders ≡ true) p.areas no_area (λ x h. let w = from_flat_map (λ d. (adds_of decls d).areas) x decls h in borders_below w.0 w.1 x w.2);
         links = at_each (λ x. x.link < net_count) p.aggregates no_aggregate (λ x h. let w = from_flat_map (λ d. (adds_of decls d).aggregates) x decls h in link_below w.0 w.1 x w.2);

@@ -4,9 +4,10 @@ use Rattle.std.specs.Prelude.{is_some, flat_map, option_map}
 use Rattle.std.specs.List.{list_any, list_all, slice_get}
 use Rattle.std.proofs.lemmas.Bool.{false≢true, or_parts, or_left, or_right, and_from, and_cases, not-true, not-false, not_from_false, ne_eqb}
 use Rattle.policy_model.specs.Lists.{is_nothing}
-use Rattle.policy_model.specs.Policy.{Area, Restriction, router_at, is_managed}
+use Rattle.policy_model.specs.Policy.{Area, Restriction, iface_of, router_at, is_managed}
+use Rattle.policy_model.specs.Walks.{sharing_ifaces, shared_sets}
 use Rattle.policy_model.proofs.AllWalks.{IsIn, in_flat_map, in_map, from_map}
-use Rattle.list_laws.proofs.Members.{each_in, some_in, some_of}
+use Rattle.list_laws.proofs.Members.{in_either, each_in, some_in, some_of}
 use Rattle.list_laws.proofs.Tables.{from_flat_map}
 use Rattle.topology.specs.Sound as sound
 use Rattle.spoc_ast.specs.Written.{Lexeme, PortText, AreaPartText, AreaAnchor, AreaBorder, AreaIdle, DeclText, NetworkDecl, RouterDecl, GroupDecl, AreaDecl, AggregateDecl, ProtocolDecl, ProtocolGroupDecl, RestrictionDecl, ServiceDecl}
@@ -14,12 +15,14 @@ use Rattle.policy_decls.specs.Names.{NetworkName, mention_port}
 use Rattle.policy_decls.specs.Uses.{used_names, uses_in, uses_in_area_part}
 use Rattle.policy_decls.specs.Lookup.{is_managed_router, router_parts}
 use Rattle.policy_decls.specs.Shapes.{has_two, same_texts, same_port, differ, is_unmanaged_port, anchors_in, borders_in}
-use Rattle.policy_decls.specs.Said.{number_of_name, number_of_port, adds_of, policy_said}
+use Rattle.policy_decls.specs.Said.{number_of_name, number_of_port, adds_of, restrictions_declared, policy_declared, implied_by, restrictions_implied, policy_said}
 use Rattle.policy_decls.specs.Formed.{is_formed_area, are_formed}
 use Rattle.decl_laws.proofs.Rows.{HasNoFault}
 use Rattle.decl_laws.proofs.Found.{same_to}
 use Rattle.decl_laws.proofs.Owners.{known_number, port_managed, one_port}
-use Rattle.decl_laws.proofs.Shaped.{none_in, all_from, formed_in, shape_of, restriction_shape, area_shape}
+use Rattle.decl_laws.proofs.Sharing.{is_sharing, set_shared}
+use Rattle.decl_laws.proofs.Equipped.{shares_hold}
+use Rattle.decl_laws.proofs.Shaped.{none_in, some_value, all_from, formed_in, shape_of, restriction_shape, area_shape}
 
 module _ (decls : List DeclText) (formed : are_formed decls ≡ true) (no_fault : HasNoFault decls) where
   -- a port of a managed router has the number of an interface of a managed router
@@ -64,9 +67,28 @@ module _ (decls : List DeclText) (formed : are_formed decls ≡ true) (no_fault 
   restriction_of_decl r (RestrictionDecl name desc ports) h (inr g) = absurd g
   restriction_of_decl r (ServiceDecl name desc idle user rules) h g = absurd g
 
+  -- interfaces that share an address are of managed routers
+  sharing_managed : (i : ℕ) → IsIn i (sharing_ifaces (policy_said decls)) → is_managed (policy_said decls) (router_at (policy_said decls) i) ≡ true
+  sharing_managed i h =
+      let w = is_sharing (policy_said decls) i h in
+      let a = some_value (iface_of (policy_said decls) i).shared w.1 in
+      (shares_hold decls formed no_fault i a.0 w.0 a.1).0
+
+  implied_holds : (r : Restriction) → IsIn r (restrictions_implied (policy_declared decls)) →
+      (sound.has_two r.members && list_all (λ i. is_managed (policy_said decls) (router_at (policy_said decls) i)) r.members) ≡ true
+  implied_holds r h =
+      let p = policy_said decls in
+      let v = from_map (implied_by (policy_declared decls)) r (shared_sets p) h in
+      let members : List ℕ = v.0 in
+      let s = set_shared p members v.1 in
+      ap (λ (x : Restriction). sound.has_two x.members && list_all (λ i. is_managed p (router_at p i)) x.members) v.2
+      ∙ and_from (sound.has_two members) (list_all (λ i. is_managed p (router_at p i)) members) s.two (all_from (λ i. is_managed p (router_at p i)) members (λ i g. sharing_managed i (s.each i g)))
+
   pub restrictions_hold : list_all (λ r. sound.has_two r.members && list_all (λ i. is_managed (policy_said decls) (router_at (policy_said decls) i)) r.members) (policy_said decls).restrictions ≡ true
   restrictions_hold =
-      all_from _ (policy_said decls).restrictions (λ r h. let w = from_flat_map (λ d. (adds_of decls d).restrictions) r decls h in restriction_of_decl r w.0 w.1 w.2)
+      all_from _ (policy_said decls).restrictions (λ r h. ⊎_elim
+      (λ g. let w = from_flat_map (λ d. (adds_of decls d).restrictions) r decls g in restriction_of_decl r w.0 w.1 w.2) (implied_holds r)
+      (in_either r (restrictions_declared decls) (restrictions_implied (policy_declared decls)) h))
 
   -- ---- areas
 

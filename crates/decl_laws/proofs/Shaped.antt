@@ -11,7 +11,7 @@ use Rattle.list_laws.proofs.Tables.{from_flat_map}
 use Rattle.spoc_ast.specs.Written.{Lexeme, PortText, NetPartText, NetIp, NetHost, NetNat, NetIdle, AreaPartText, DeclText, NetworkDecl, RouterDecl, GroupDecl, AreaDecl, AggregateDecl, ProtocolDecl, ProtocolGroupDecl, RestrictionDecl, ServiceDecl}
 use Rattle.policy_decls.specs.Numbers.{prefix_of, holds_of}
 use Rattle.policy_decls.specs.Lookup.{ips_in_net_part, ips_in_nats, only_one, own_prefix, aligned, has_host_bit, IfaceText, ifaces_in, declared_ifaces}
-use Rattle.policy_decls.specs.Shapes.{has_one, hosts_in, lacks_prefix, is_bad_host, leaves, is_unaligned, has_unaligned, has_other_length, is_bad_device, is_bad_iface, is_outside, has_address_of, clash_with, has_hardware_of, is_bad_binding, is_bad_restriction, is_bad_area, first_true, shape_in}
+use Rattle.policy_decls.specs.Shapes.{has_one, hosts_in, lacks_prefix, is_bad_host, leaves, is_unaligned, has_unaligned, has_other_length, is_bad_device, is_bad_iface, is_outside, has_address_of, clash_with, has_hardware_of, is_bad_binding, is_bad_shared, is_bad_restriction, is_bad_area, first_true, shape_in}
 use Rattle.policy_decls.specs.Faults.{first_shape}
 use Rattle.policy_decls.specs.Formed.{says_prefix, is_formed_net, is_formed}
 use Rattle.decl_laws.proofs.Cuts.{cut_in}
@@ -118,9 +118,10 @@ pub record RouterShape (decls : List DeclText) (earlier ifaces : List IfaceText)
   pub addresses : clash_with has_address_of earlier ifaces ≡ false
   pub hardware : clash_with has_hardware_of [] ifaces ≡ false
   pub binds : list_any is_bad_binding ifaces ≡ false
+  pub shared : list_any (is_bad_shared decls) ifaces ≡ false
 
 no_ifaces : (decls : List DeclText) (earlier : List IfaceText) → RouterShape decls earlier []
-no_ifaces decls earlier = record { parts = refl; inside = refl; addresses = refl; hardware = refl; binds = refl }
+no_ifaces decls earlier = record { parts = refl; inside = refl; addresses = refl; hardware = refl; binds = refl; shared = refl }
 
 pub router_shape : (decls : List DeclText) (earlier : List IfaceText) (d : DeclText) → shape_in decls earlier d ≡ None → RouterShape decls earlier (ifaces_in d)
 router_shape decls earlier (NetworkDecl name desc parts) e = no_ifaces decls earlier
@@ -128,9 +129,9 @@ router_shape decls earlier (RouterDecl name desc parts) e =
     let ifaces = ifaces_in (RouterDecl name desc parts) in
     let rows : List (ℕ × Bool) =
     (6, is_bad_device parts) ∷ (7, list_any is_bad_iface ifaces) ∷ (8, list_any (is_outside decls) ifaces) ∷ (9, clash_with has_address_of earlier ifaces)
-    ∷ (10, clash_with has_hardware_of [] ifaces) ∷ (11, list_any is_bad_binding ifaces) ∷ [] in
+    ∷ (10, clash_with has_hardware_of [] ifaces) ∷ (11, list_any is_bad_binding ifaces) ∷ (15, list_any (is_bad_shared decls) ifaces) ∷ [] in
     let w = rows_absent rows e in
-    record { parts = w.1.0; inside = w.1.1.0; addresses = w.1.1.1.0; hardware = w.1.1.1.1.0; binds = w.1.1.1.1.1.0 }
+    record { parts = w.1.0; inside = w.1.1.0; addresses = w.1.1.1.0; hardware = w.1.1.1.1.0; binds = w.1.1.1.1.1.0; shared = w.1.1.1.1.1.1.0 }
 router_shape decls earlier (GroupDecl name desc objects) e = no_ifaces decls earlier
 router_shape decls earlier (AreaDecl name desc parts) e = no_ifaces decls earlier
 router_shape decls earlier (AggregateDecl name desc parts) e = no_ifaces decls earlier

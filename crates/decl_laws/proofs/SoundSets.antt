@@ -6,7 +6,7 @@ use Rattle.std.proofs.lemmas.Bool.{false≢true, and_parts, and_from, or_parts, 
 use Rattle.topology.specs.Sound.{HasSoundSets, is_sound_expr, is_sound_rule, is_sound_service, names_user}
 use Rattle.policy_model.specs.Lists.{is_nothing}
 use Rattle.policy_model.specs.Policy.{Group, Rule, Service, no_group, is_managed, router_at, iface_of}
-use Rattle.spoc_ast.specs.Written.{Lexeme, PortText, SetText, NoParts, NetworkNamed, HostNamed, PortNamed, GroupNamed, AggregateNamed, AreaNamed, UserNamed, NetworksIn, HostsIn, ZonesIn, Joining, Keeping, Leaving, IfPartText, IfIp, IfHardware, IfBindNat, IfIdle, RuleText, DeclText, RouterDecl, GroupDecl, ServiceDecl}
+use Rattle.spoc_ast.specs.Written.{Lexeme, PortText, SetText, NoParts, NetworkNamed, HostNamed, PortNamed, GroupNamed, AggregateNamed, AreaNamed, UserNamed, NetworksIn, HostsIn, ZonesIn, Joining, Keeping, Leaving, IfPartText, IfIp, IfHardware, IfBindNat, IfVirtual, IfIdle, RuleText, DeclText, RouterDecl, GroupDecl, ServiceDecl}
 use Rattle.policy_decls.specs.Numbers.{address_of}
 use Rattle.policy_decls.specs.Names.{NetworkName, HostName, GroupName, AreaName, AggregateName, Mention, mention, mention_port, declared_names, same_name}
 use Rattle.policy_decls.specs.Uses.{uses_in_set, uses_in_prt, uses_in_rule}
@@ -47,6 +47,7 @@ address_formed w (IfIp address) h (inl e) = ap (λ x. is_some (address_of x.text
 address_formed w (IfIp address) h (inr g) = absurd g
 address_formed w (IfHardware hardware) h g = absurd g
 address_formed w (IfBindNat tags) h g = absurd g
+address_formed w (IfVirtual parts) h g = absurd g
 address_formed w (IfIdle idle) h g = absurd g
 
 module _ (decls : List DeclText) (apart : AreApart same_name (declared_names decls)) (faultless : (d : DeclText) → IsIn d decls → IsFaultless decls d) where

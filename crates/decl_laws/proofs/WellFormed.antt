@@ -8,7 +8,7 @@ use Rattle.policy_decls.specs.Faults.{fault_of}
 use Rattle.policy_decls.specs.Formed.{are_formed}
 use Rattle.decl_laws.proofs.Rows.{no_rows}
 use Rattle.decl_laws.proofs.Addressed.{hosts_stay, nats_keep}
-use Rattle.decl_laws.proofs.Equipped.{are_equipped, addresses_stay, addresses_differ, hardware_differs, binds_once}
+use Rattle.decl_laws.proofs.Equipped.{are_equipped, addresses_stay, addresses_differ, shares_hold, hardware_differs, binds_once}
 use Rattle.decl_laws.proofs.Restricted.{restrictions_hold, areas_hold}
 
 pub well_formed : (decls : List DeclText) → IsTrue (are_formed decls) → fault_of decls ≡ None → IsWellFormed (policy_said decls)
@@ -20,6 +20,7 @@ well_formed decls formed none =
       equipped = are_equipped decls formed h;
       addresses = addresses_stay decls formed h;
       apart = addresses_differ decls formed h;
+      shared = shares_hold decls formed h;
       hardware = hardware_differs decls formed h;
       binds = binds_once decls formed h;
       restrictions = restrictions_hold decls formed h;

@@ -13,7 +13,7 @@ pub fn policies_said_are_numbered()
     ensures { (decls : List DeclText) → IsTrue (are_formed decls) → fault_of decls ≡ None → IsNumbered (policy_said decls) }
 {}
 
-/// No two things of one kind have one name, and no two interfaces of a router one network.
+/// No two things of one kind have one name, no two restrictions that are declared, and no two interfaces of a router one network.
 pub fn policies_said_are_named()
     ensures { (decls : List DeclText) → IsTrue (are_formed decls) → fault_of decls ≡ None → IsNamed (policy_said decls) }
 {}

@@ -13,15 +13,18 @@ use Rattle.policy_model.specs.Zones.{Site, zone_of, zone_at, zone_count}
 use Rattle.policy_model.specs.Tags.{Views, AreViews, IsBarred, binds, keeps_tag, zone_view, router_view}
 use Rattle.policy_model.specs.Places.{translated_address, place, is_number}
 use Rattle.policy_model.specs.Objects.{Object, NetObject, HostObject, IfaceObject, objects_of}
-use Rattle.policy_model.specs.Permits.{Permit, one_address}
+use Rattle.policy_model.specs.Permits.{Permit, one_address, permit_count}
 use Rattle.policy_model.specs.Blocks.{permit_at, no_permit}
-use Rattle.policy_model.specs.Routes.{NextHop, same_number, same_next_hop, hops_of, is_static}
+use Rattle.policy_model.specs.Routes.{NextHop, Hop, same_number, same_next_hop, same_hop, hop_of, hops_of, table_hops, is_static}
 use Rattle.policy_model.specs.Faults.{is_translated_twice, is_translated_inside, has_tag, view_count, is_same_prefix, IsShadowed, is_hidden_end, is_managed_end, has_managed_end, has_no_path, has_bare_hop, has_two_hops, lacks_address}
-use Rattle.policy_model.specs.FirstFault.{AreaSplit, NatConflict, NatTwice, NatInside, LimitViews, SamePrefix, HostShadowed, IfaceShadowed, ManagedEnd, LimitPermits, NoPath, HiddenEnd, LimitLines, LimitRoutes, NoHopAddress, AmbiguousHop, ViewPlace, AtZone, AtRouter, view_at, is_there, most_views, most_items, line_count, route_count, no_service, is_bare_next, has_hop, is_lower, hop_order, IsAccepted}
+use Rattle.policy_model.specs.FirstFault.{AreaSplit, NatConflict, NatTwice, NatInside, LimitViews, SamePrefix, HostShadowed, IfaceShadowed, ManagedEnd, LimitPermits, NoPath, HiddenEnd, LimitLines, LimitRoutes, NoHopAddress, AmbiguousHop, ViewPlace, AtZone, AtRouter, view_at, is_there, most_views, most_items, line_count, route_count, no_service, is_bare_next, has_hop, is_lower, hop_order, address_at, IsAccepted}
 use Rattle.policy_model.specs.Headline.{Meaning, permits_in}
 use Rattle.policy_model.proofs.AllWalks.{IsIn}
 use Rattle.policy_model.proofs.Tested.{each_below, each_two, each_two_below, if_so, if_so_lem, Reaches-stays, crossing_below}
 use Rattle.list_laws.proofs.Members.{some_in, some_of, each_in}
+use Rattle.list_laws.proofs.Tables.{only_one}
+use Rattle.policy_laws.proofs.Accepted.{same_hop_refl}
+use Rattle.policy_laws.proofs.NextHops.{same_next_hop_true, in_table_hops}
 use Rattle.policy_model.proofs.Shorthand.{policy_of}
 
 -- ---- words
@@ -62,39 +65,8 @@ number_is : (o : Option ℕ) (n : ℕ) → is_number o n ≡ true → o ≡ Some
 number_is None n h = absurd (false≢true h)
 number_is (Some k) n h = ap Some (eqb-true k n h)
 
-not_lower : (xs : List ℕ) → is_lower xs xs ≡ false
-not_lower [] = refl
-not_lower (x ∷ xs) = go (nat_lt x x) (x == x) (is_lower xs xs) (λ h. let g = ltb-true x x h in omega (arith, g)) (not_lower xs)
-  where
-    go : (a b c : Bool) → (a ≡ true → ⊥) → c ≡ false → (a || (b && c)) ≡ false
-    go true b c h e = absurd (h refl)
-    go false true c h e = e
-    go false false c h e = refl
-
-same_order : (h k : NextHop) → same_next_hop h k ≡ true → hop_order h ≡ hop_order k
-same_order h k e =
-    let w = and_parts (h.out == k.out) (same_number h.next k.next) e in
-    go h.out k.out h.next k.next (eqb-true h.out k.out w.0) w.1
-  where
-    go : (a b : ℕ) (o p : Option ℕ) → a ≡ b → same_number o p ≡ true →
-        (let h : NextHop = record { out = a; next = o } in hop_order h) ≡ (let k : NextHop = record { out = b; next = p } in hop_order k)
-    go a b None None e h = ap (λ (n : ℕ). n ∷ 0 ∷ []) e
-    go a b None (Some k) e h = absurd (false≢true h)
-    go a b (Some i) None e h = absurd (false≢true h)
-    go a b (Some i) (Some k) e h = ap (λ (n : ℕ). n ∷ suc i ∷ []) e ∙ ap (λ (n : ℕ). b ∷ suc n ∷ []) (eqb-true i k h)
-
-only_one : (hops : List NextHop) (h k : NextHop) → (nat_lt 1 (length hops) ≡ true → ⊥) → has_hop hops h ≡ true → has_hop hops k ≡ true → is_lower (hop_order h) (hop_order k) ≡ true → ⊥
-only_one [] h k few a b lower = false≢true a
-only_one (x ∷ []) h k few a b lower =
-    let e = single (same_next_hop h x) a in
-    let f = single (same_next_hop k x) b in
-    let orders = same_order h x e ∙ sym (same_order k x f) in
-    false≢true (sym (ap (λ (xs : List ℕ). is_lower xs (hop_order k)) orders ∙ not_lower (hop_order k)) ∙ lower)
-  where
-    single : (b : Bool) → (b || false) ≡ true → b ≡ true
-    single true h = refl
-    single false h = h
-only_one (x ∷ y ∷ rest) h k few a b lower = few (lt-ltb 1 (suc (suc (length rest))) (omega arith))
+has_it : (hops : List NextHop) (h : NextHop) → has_hop hops h ≡ true → IsIn h hops
+has_it hops h t = let w = some_in (same_next_hop h) hops t in subst (λ (x : NextHop). IsIn x hops) (sym (same_next_hop_true h w.0 w.2)) w.1
 
 abbrev pub is_no_iface : Object → Bool
 is_no_iface (NetObject n) = true
@@ -234,7 +206,7 @@ module _ (m : Meaning) where
   hosts_at_home = each_view (λ view. list_all (λ h. is_at_home (host_of p h).net (host_of p h).range view) (numbers_below (length p.hosts)))
 
   abbrev pub is_iface_at_home : List ℕ → ℕ → Bool
-  is_iface_at_home view i = by_addr (iface_of p i).addr
+  is_iface_at_home view i = by_addr (address_at p i false) && by_addr (address_at p i true)
     where
       by_addr : Option ℕ → Bool
       by_addr None = true
@@ -257,7 +229,7 @@ module _ (m : Meaning) where
   all_joined = list_all (λ q. not (has_no_path s q)) permits
 
   abbrev pub within_limits : Bool
-  within_limits = nat_le (view_count v) most_views && nat_le (length permits) most_items && nat_le (line_count s v permits) most_items && nat_le (route_count s permits) most_items
+  within_limits = nat_le (view_count v) most_views && nat_le (permit_count s m.areas) most_items && nat_le (line_count s v permits) most_items && nat_le (route_count s permits) most_items
 
   abbrev pub clear_hops : Bool
   clear_hops = list_all (λ r. list_all (λ n. not (has_bare_hop s permits r n) && not (has_two_hops s permits r n)) (numbers_below (length p.nets))) (numbers_below (length p.routers))
@@ -282,12 +254,12 @@ module _ (m : Meaning) where
     pub limits : within_limits ≡ true
     pub hops : clear_hops ≡ true
 
-  at_limits : within_limits ≡ true → (view_count v ≤ most_views) × (length permits ≤ most_items) × (line_count s v permits ≤ most_items) × (route_count s permits ≤ most_items)
+  at_limits : within_limits ≡ true → (view_count v ≤ most_views) × (permit_count s m.areas ≤ most_items) × (line_count s v permits ≤ most_items) × (route_count s permits ≤ most_items)
   at_limits h =
-      let a = and_parts (nat_le (view_count v) most_views && nat_le (length permits) most_items && nat_le (line_count s v permits) most_items) (nat_le (route_count s permits) most_items) h in
-      let b = and_parts (nat_le (view_count v) most_views && nat_le (length permits) most_items) (nat_le (line_count s v permits) most_items) a.0 in
-      let c = and_parts (nat_le (view_count v) most_views) (nat_le (length permits) most_items) b.0 in
-      (leb-true (view_count v) most_views c.0, leb-true (length permits) most_items c.1, leb-true (line_count s v permits) most_items b.1, leb-true (route_count s permits) most_items a.1)
+      let a = and_parts (nat_le (view_count v) most_views && nat_le (permit_count s m.areas) most_items && nat_le (line_count s v permits) most_items) (nat_le (route_count s permits) most_items) h in
+      let b = and_parts (nat_le (view_count v) most_views && nat_le (permit_count s m.areas) most_items) (nat_le (line_count s v permits) most_items) a.0 in
+      let c = and_parts (nat_le (view_count v) most_views) (nat_le (permit_count s m.areas) most_items) b.0 in
+      (leb-true (view_count v) most_views c.0, leb-true (permit_count s m.areas) most_items c.1, leb-true (line_count s v permits) most_items b.1, leb-true (route_count s permits) most_items a.1)
 
   over : (n most : ℕ) → n ≤ most → most < n → ⊥
   over n most a b = omega arith
@@ -301,12 +273,18 @@ module _ (m : Meaning) where
   iface_home t i at below place =
       each_below (is_iface_at_home (view_at v at)) (length p.ifaces) (at_view (λ view. list_all (is_iface_at_home view) (numbers_below (length p.ifaces))) t at place) i below
 
-  home_of : (view : List ℕ) (i a : ℕ) → (iface_of p i).addr ≡ Some a → is_iface_at_home view i ≡ true → is_at_home (net_at p i) (one_address a) view ≡ true
-  home_of view i a is h = ap (λ (o : Option ℕ). by_option o) (sym is) ∙ h
+  home_of : (view : List ℕ) (i : ℕ) (shared : Bool) (a : ℕ) → address_at p i shared ≡ Some a → is_iface_at_home view i ≡ true → is_at_home (net_at p i) (one_address a) view ≡ true
+  home_of view i shared a is h =
+      let w = and_parts (by_option (address_at p i false)) (by_option (address_at p i true)) h in
+      ap (λ (o : Option ℕ). by_option o) (sym is) ∙ of_both shared w.0 w.1
     where
       by_option : Option ℕ → Bool
       by_option None = true
       by_option (Some a) = is_at_home (net_at p i) (one_address a) view
+
+      of_both : (b : Bool) → by_option (address_at p i false) ≡ true → by_option (address_at p i true) ≡ true → by_option (address_at p i b) ≡ true
+      of_both true x y = y
+      of_both false x y = x
 
   no_ends : no_iface_ends ≡ true → (k i : ℕ) → k < length p.services → has_managed_end s m.areas (slice_index_or p.services k no_service) i ≡ true → ⊥
   no_ends t k i below h =
@@ -349,13 +327,22 @@ module _ (m : Meaning) where
       never (has_bare_hop s permits r n) (hops_at t r n a.0 below).0 (and_from (is_static p r) (list_any (lacks_address p) hops) a.0 (some_of (lacks_address p) hop hops x.1 lacks))
 
   no_two : clear_hops ≡ true → (r n : ℕ) (h k : NextHop) → n < length p.nets →
-      (is_static p r && has_hop (hops_of s permits r n) h && has_hop (hops_of s permits r n) k && is_lower (hop_order h) (hop_order k)) ≡ true → ⊥
+      (is_static p r && has_hop (hops_of s permits r n) h && has_hop (hops_of s permits r n) k && not (same_hop (hop_of p h) (hop_of p k)) && is_lower (hop_order h) (hop_order k)) ≡ true → ⊥
   no_two t r n h k below all =
       let hops = hops_of s permits r n in
-      let a = and_parts (is_static p r && has_hop hops h && has_hop hops k) (is_lower (hop_order h) (hop_order k)) all in
+      let told = table_hops s permits r n in
+      let other = not (same_hop (hop_of p h) (hop_of p k)) in
+      let d = and_parts (is_static p r && has_hop hops h && has_hop hops k && other) (is_lower (hop_order h) (hop_order k)) all in
+      let a = and_parts (is_static p r && has_hop hops h && has_hop hops k) other d.0 in
       let b = and_parts (is_static p r && has_hop hops h) (has_hop hops k) a.0 in
       let c = and_parts (is_static p r) (has_hop hops h) b.0 in
-      only_one hops h k (λ more. never (has_two_hops s permits r n) (hops_at t r n c.0 below).1 (and_from (is_static p r) (nat_lt 1 (length hops)) c.0 more)) c.1 b.1 a.1
+      let few : length told ≤ 1 =
+      ⊎_elim
+      (λ (more : 1 < length told). absurd (never (has_two_hops s permits r n) (hops_at t r n c.0 below).1 (and_from (is_static p r) (nat_lt 1 (length told)) c.0 (lt-ltb 1 (length told) more))))
+      (λ le. le) (cases_lt 1 (length told)) in
+      let same : hop_of p h ≡ hop_of p k =
+      only_one told (hop_of p h) (hop_of p k) few (in_table_hops s permits r n h (has_it hops h c.1)) (in_table_hops s permits r n k (has_it hops k b.1)) in
+      never (same_hop (hop_of p h) (hop_of p k)) a.1 (subst (λ (x : Hop). same_hop (hop_of p h) x ≡ true) same (same_hop_refl (hop_of p h)))
 
   pub accepted : AreViews s v → Passed → IsAccepted m
   accepted views t (AreaSplit k i) f = absurd (let a = f.0 in let b = t.areas in omega (arith, a, b))
@@ -365,13 +352,13 @@ module _ (m : Meaning) where
   accepted views t LimitViews f = over (view_count v) most_views (at_limits t.limits).0 f
   accepted views t (SamePrefix n o at) f = not_same t.same n o at f.0 f.1 f.2
   accepted views t (HostShadowed h o at) f = not_shadowed (host_of p h).net (host_of p h).range (view_at v at) o (host_home t.hosts h at f.0 f.1) f.2
-  accepted views t (IfaceShadowed i o at) f =
+  accepted views t (IfaceShadowed i shared o at) f =
       let x = f.2 in
-      not_shadowed (net_at p i) (one_address x.address) (view_at v at) o (home_of (view_at v at) i x.address x.its (iface_home t.ifaces i at f.0 f.1)) x.shadowed
+      not_shadowed (net_at p i) (one_address x.address) (view_at v at) o (home_of (view_at v at) i shared x.address x.its (iface_home t.ifaces i at f.0 f.1)) x.shadowed
   accepted views t (ManagedEnd k i) f = no_ends t.ends k i f.0 f.1
-  accepted views t LimitPermits f = over (length permits) most_items (at_limits t.limits).1 f
+  accepted views t LimitPermits f = over (permit_count s m.areas) most_items (at_limits t.limits).1 f
   accepted views t (NoPath u w) f = no_path t.joined u w f
-  accepted views t (HiddenEnd k n z) f = seen_ends t.seen (permit_at permits k) (in_at permits no_permit k f.0) n z f.1 f.2
+  accepted views t (HiddenEnd k u w n z) f = seen_ends t.seen (permit_at permits k) (in_at permits no_permit k f.0) n z f.1 f.2
   accepted views t LimitLines f = over (line_count s v permits) most_items (at_limits t.limits).2 f
   accepted views t LimitRoutes f = over (route_count s permits) most_items (at_limits t.limits).3 f
   accepted views t (NoHopAddress r n i) f = no_bare t.hops r n i f.0 f.1

@@ -10,10 +10,10 @@ use Rattle.policy_model.specs.Zones.{Site, zone_of, zone_at}
 use Rattle.policy_model.specs.Walks.{is_crossing}
 use Rattle.policy_model.specs.Permits.{Packet}
 use Rattle.policy_model.specs.Packets.{walks_of}
-use Rattle.policy_model.specs.Routes.{NextHop, Hop, next_hops, hops_through, hops_beyond, first_hops, is_detour, is_static}
+use Rattle.policy_model.specs.Routes.{NextHop, Hop, next_hops, hops_through, hops_beyond, first_hops, is_detour, is_static, hop_of}
 use Rattle.policy_model.specs.Passing.{Config, device_passes}
 use Rattle.policy_model.specs.Delivery.{Delivery, Arrived, ended_by, with_turn, arrival, turn, sent_by, delivery_within, delivery}
-use Rattle.policy_model.specs.Headline.{Meaning, IsMeaning, permits_in, is_to_pass, IsSent, DevicesPass, TablesSend, hop_of, is_all_static, has_no_detour, Delivers}
+use Rattle.policy_model.specs.Headline.{Meaning, IsMeaning, permits_in, is_to_pass, IsSent, DevicesPass, TablesSend, is_all_static, has_no_detour, Delivers}
 use Rattle.policy_model.proofs.AllWalks.{IsIn, from_map, in_numbers, in_allowed_walks, parts_of, managed_is_there}
 use Rattle.list_laws.proofs.Members.{each_in}
 use Rattle.policy_laws.specs.Secured.{AreSecured, HaveLists}
@@ -110,7 +110,7 @@ module _ (m : Meaning) (configs : List Config) (passing : DevicesPass m configs)
       let onward : (h.out == d.enter) ≡ false =
       ne_eqb h.out d.enter (λ e. false≢true (sym (not-true (zone_at s d.enter == zone_at s d.leave) apart) ∙ eq-eqb (zone_at s d.enter) (zone_at s d.leave) (ap (zone_at s) (sym e ∙ leaves_by)))) in
       let passed : device_passes s m.views configs x (crossing d.enter h.out) ≡ true =
-      ap (device_passes s m.views configs x) same ∙ (passing x so_far d rest way ∙ pass) in (
+      ap (device_passes s m.views configs x) same ∙ (passing x d (so_far, rest, way) ∙ pass) in (
         hop,
         goes s m.views configs x next so_far d.enter (sent_by s m.views configs x d.enter) hop w.2 onward passed
             ∙ ap (λ (c : Crossing). with_turn (made c hop) (arrival s m.views configs x next so_far c)) same,

@@ -41,7 +41,7 @@ module _ (m : Meaning) (configs : List Config) (ok : AreSecured m.site m.views (
     stopped : (c : Crossing) → is_on_way m.site x (c ∷ []) ≡ true → device_passes m.site m.views configs x c ≡ false
     stopped c on =
         let w = way_on m.site x (c ∷ []) on in
-        devices_pass m configs ok lists x [] c w.0 (under_way m x choose sent (c ∷ w.0) w.1) ∙ refused
+        devices_pass m configs ok lists x c ([], w.0, under_way m x choose sent (c ∷ w.0) w.1) ∙ refused
 
     first_turn : (i : ℕ) (o : Option Hop) → IsRefused (turn m.site m.views configs x next [] i o)
     first_turn i None = refl

@@ -21,6 +21,7 @@ use Rattle.policy_model.proofs.SmallSite.{office, seen_office, dmz, link, policy
 use Rattle.list_laws.proofs.Members.{each_in}
 use Rattle.policy_laws.specs.Secured.{no_nat, IsPrefix, IsNet, IsEnd, AreSecured, HaveLists}
 use Rattle.policy_laws.specs.Shaped.{IsShaped}
+use Rattle.policy_laws.proofs.OwnAddresses.{own_by_test}
 use Rattle.policy_laws.specs.Routed.{AreRouted, IsWired, HaveTables}
 use Rattle.policy_laws.proofs.Optimal.{list_optimised, written_alike}
 use Rattle.policy_laws.proofs.Accepted.{secures, accepted_exact}
@@ -109,7 +110,7 @@ each_once i j h g e f =
     eqb-true i j (only_from (router_at policy i == router_at policy j) (net_at policy i == net_at policy j) (i == j) here (eq-eqb (router_at policy i) (router_at policy j) e) (eq-eqb (net_at policy i) (net_at policy j) f))
 
 its_wires : IsWired policy
-its_wires = record { placed = each_placed; once = each_once }
+its_wires = record { placed = each_placed; once = each_once; own = own_by_test policy refl }
 
 -- ---- it has no fault
 

@@ -12,7 +12,7 @@ use Rattle.policy_model.specs.Zones.{IsSite, zone_of, zone_at, zone_count}
 use Rattle.policy_model.specs.Tags.{IsBarred, binds, keeps_tag, zone_view}
 use Rattle.policy_model.specs.Places.{prefix_in}
 use Rattle.policy_model.specs.Objects.{area_zones}
-use Rattle.policy_model.specs.Permits.{Permit}
+use Rattle.policy_model.specs.Permits.{Permit, permit_count}
 use Rattle.policy_model.specs.Blocks.{permit_at}
 use Rattle.policy_model.specs.Faults.{is_split, has_tag, is_translated_twice, is_translated_inside, view_count, are_one_prefix, is_same_prefix, has_managed_end, has_no_path, is_hidden_end}
 use Rattle.policy_model.specs.FirstFault.{FaultCase, AreaSplit, NatConflict, NatTwice, NatInside, LimitViews, SamePrefix, ManagedEnd, LimitPermits, NoPath, HiddenEnd, LimitLines, LimitRoutes, ViewPlace, AtZone, AtRouter, view_at, is_there, place_order, is_lower, HasFault, most_views, most_items, line_count, route_count}
@@ -24,9 +24,9 @@ use Rattle.meaning_laws.proofs.Reached.{reached, leads_there}
 use Rattle.meaning_laws.proofs.RowsThere.{keeps_through, active_if, if_active}
 use Rattle.topology.specs.First.{HasNone, row_of}
 use Rattle.topology.specs.Sound.{IsSound, are_below}
-use Rattle.fault_laws.specs.Cases.{IsFirstCase, all_zones, all_areas, all_services, all_places, split_case, twice_case, inside_case, views_case, same_case, service_of, managed_case, permits_case, lacks_path, path_case, lines_case, routes_case, HidesNothing, is_other_side, is_barred, is_conflicting, conflict_case, end_net, is_end_hidden, hidden_case}
+use Rattle.fault_laws.specs.Cases.{IsFirstCase, all_zones, all_areas, all_services, all_places, split_case, twice_case, inside_case, views_case, same_case, service_of, managed_case, permits_case, lacks_path, path_case, lines_case, routes_case, is_other_side, is_barred, is_conflicting, conflict_case, end_net, is_end_hidden, hidden_fault, hidden_case}
 use Rattle.fault_laws.proofs.Orders.{InOrder, PairBefore, from_numbers, from_pairs, order_numbers, order_append, order_map, order_pairs}
-use Rattle.fault_laws.proofs.Shapes.{lower_here, lower_later, value, place_of, at_split, at_conflict, at_twice, at_inside, at_views, at_same, at_managed, at_permits, at_path, hidden_net, at_hidden, at_lines, at_routes}
+use Rattle.fault_laws.proofs.Shapes.{lower_here, lower_later, value, place_of, at_split, at_conflict, at_twice, at_inside, at_views, at_same, at_managed, at_permits, at_path, hidden_src, hidden_dst, hidden_net, at_hidden, at_lines, at_routes}
 use Rattle.fault_laws.proofs.Joins.{joined, of_none, or_none}
 use Rattle.fault_laws.proofs.Finding.{AreListed, listed_first, limit_first}
 use Rattle.fault_laws.proofs.There.{managed_end_there, permit_there, service_is_sound}
@@ -299,7 +299,7 @@ module _ (m : Meaning) where
       listed_first m 7 (ℕ × ℕ) (λ e. ManagedEnd e.0 e.1) (λ e. has_managed_end m.site m.areas (service_of p e.0) e.1) (pairs_of (all_services p) (all_ifaces p)) TwoBefore (managed_listed sound)
 
   pub permits_first : IsFirstCase m 8 8 (permits_case m)
-  permits_first = limit_first m 8 LimitPermits refl (λ g e. at_permits g e) most_items (length (permits_in m)) (λ h. h, λ h. h)
+  permits_first = limit_first m 8 LimitPermits refl (λ g e. at_permits g e) most_items (permit_count m.site m.areas) (λ h. h, λ h. h)
 
   pub services_first : IsSound p → IsFirstCase m 7 8 (option_or (managed_case m) (permits_case m))
   services_first sound = joined m 7 7 8 (omega arith) (omega arith) (managed_case m) (permits_case m) (managed_first sound) permits_first
@@ -358,8 +358,8 @@ module _ (m : Meaning) where
   abbrev its_permit : ℕ → Permit
   its_permit k = permit_at (permits_in m) k
 
-  abbrev hidden_fault : HiddenItem → FaultCase
-  hidden_fault e = HiddenEnd e.0.0 (end_net (its_permit e.0.0) e.1) e.0.1
+  abbrev hidden_item : HiddenItem → FaultCase
+  hidden_item e = hidden_fault (permits_in m) e.0.0 e.1 e.0.1
 
   abbrev HiddenHere : HiddenItem → Bool
   HiddenHere e = is_end_hidden m e.0.0 e.0.1 e.1
@@ -408,24 +408,31 @@ module _ (m : Meaning) where
       let q = its_permit k in
       ⊎_elim (λ e. (false, eqb-true n q.src.net e)) (λ e. (true, eqb-true n q.dst.net e)) (or_cases (n == q.src.net) (n == q.dst.net) (hidden_parts q n z h).1)
 
-  each_hidden : (f : FaultCase) → row_of f ≡ 10 → HasFault m f → (x : HiddenItem) × (f ≡ hidden_fault x)
+  each_hidden : (f : FaultCase) → row_of f ≡ 10 → HasFault m f → (x : HiddenItem) × (f ≡ hidden_item x)
   each_hidden f r h =
       let k = value 1 f in
+      let u = hidden_src f in
+      let w = hidden_dst f in
       let n = hidden_net f in
       let z = value 2 f in
+      let q = its_permit k in
       let e = at_hidden f r in
-      let t : HasFault m (HiddenEnd k n z) = subst (λ (g : FaultCase). HasFault m g) e h in
-      let w = its_end k n z t.2 in
-      (((k, z), w.0), e ∙ ap (λ (i : ℕ). HiddenEnd k i z) w.1)
+      let t : HasFault m (HiddenEnd k u w n z) = subst (λ (g : FaultCase). HasFault m g) e h in
+      let side = its_end k n z t.2 in (
+        ((k, z), side.0),
+        e
+            ∙ (ap (λ (i : ℕ). HiddenEnd k i w n z) (sym t.3)
+            ∙ (ap (λ (i : ℕ). HiddenEnd k q.src.net i n z) (sym t.4) ∙ ap (λ (i : ℕ). HiddenEnd k q.src.net q.dst.net i z) side.1)),
+      )
 
-  hidden_listed : AreListed m 10 HiddenItem hidden_fault HiddenHere hidden_items HiddenBefore
+  hidden_listed : AreListed m 10 HiddenItem hidden_item HiddenHere hidden_items HiddenBefore
   hidden_listed = record {
     row = λ e. refl;
     each = each_hidden;
     sound = λ e i t.
         let w = from_pairs (pairs_of (numbers_below (length (permits_in m))) (all_zones m.site)) (false ∷ true ∷ []) e i in
         let v = from_two (length (permits_in m)) (zone_count m.site) e.0 w.0 in
-        (v.0, v.1, t);
+        (v.0, v.1, t, refl, refl);
     listed = λ e h.
         (in_pairs e.0 e.1 (pairs_of (numbers_below (length (permits_in m))) (all_zones m.site)) (false ∷ true ∷ []) (in_two (length (permits_in m)) (zone_count m.site) e.0.0 e.0.1 h.0 h.1) (in_sides e.1), h.2);
     order = order_pairs TwoBefore SideBefore (pairs_of (numbers_below (length (permits_in m))) (all_zones m.site)) (false ∷ true ∷ []) (order_two (length (permits_in m)) (zone_count m.site)) sides_in_order;
@@ -434,48 +441,9 @@ module _ (m : Meaning) where
   }
 
   pub hidden_first : IsFirstCase m 10 10 (hidden_case m)
-  hidden_first = listed_first m 10 HiddenItem hidden_fault HiddenHere hidden_items HiddenBefore hidden_listed
+  hidden_first = listed_first m 10 HiddenItem hidden_item HiddenHere hidden_items HiddenBefore hidden_listed
 
-  pub all_walks_first : IsSound p → IsSite m.site → IsFirstCase m 9 11 (option_or (option_or (path_case m) (hidden_case m)) (lines_case m))
-  all_walks_first sound site =
+  pub walks_first : IsSound p → IsSite m.site → IsFirstCase m 9 11 (option_or (option_or (path_case m) (hidden_case m)) (lines_case m))
+  walks_first sound site =
       joined m 9 10 11 (omega arith) (omega arith) (option_or (path_case m) (hidden_case m)) (lines_case m)
       (joined m 9 9 10 (omega arith) (omega arith) (path_case m) (hidden_case m) (path_first sound site) hidden_first) lines_first
-
-  -- ---- nothing is hidden
-
-  seen_by : (view : List ℕ) (own : Cidr) (nats : List (ℕ × Option Cidr)) → list_all (λ nat. is_some nat.1) nats ≡ true →
-      is_some (unwrap_or (option_map (λ nat. nat.1) (find (λ nat. has view nat.0) nats)) (Some own)) ≡ true
-  seen_by view own [] all = refl
-  seen_by view own (nat ∷ nats) all =
-      let a = and_parts (is_some nat.1) (list_all (λ x. is_some x.1) nats) all in
-      go (has view nat.0) a.0 (seen_by view own nats a.1)
-    where
-      go : (b : Bool) → is_some nat.1 ≡ true → is_some (unwrap_or (option_map (λ x. x.1) (find (λ x. has view x.0) nats)) (Some own)) ≡ true →
-          is_some (unwrap_or (option_map (λ x. x.1) (cond b (Some nat) (find (λ x. has view x.0) nats))) (Some own)) ≡ true
-      go true here later = here
-      go false here later = later
-
-  all_seen : HidesNothing p → (view : List ℕ) (n : ℕ) → is_some (prefix_in p view n) ≡ true
-  all_seen none view n =
-      ⊎_elim (λ below. seen_by view (net_of p n).own (net_of p n).nats (none n below))
-      (λ past. subst (λ (x : Net). is_some (unwrap_or (option_map (λ nat. nat.1) (find (λ nat. has view nat.0) x.nats)) (Some x.own)) ≡ true) (sym (get_or_past p.nets n no_net past)) refl)
-      (cases_lt n (length p.nets))
-
-  isnt_hidden : HidesNothing p → (q : Permit) (n z : ℕ) → is_hidden_end m.site m.views q n z ≡ true → ⊥
-  isnt_hidden none q n z h =
-      let seen = is_some (prefix_in p (zone_view m.views z) n) in
-      both_ways seen (not-true seen (hidden_parts q n z h).2) (all_seen none (zone_view m.views z) n)
-
-  hidden_none : HidesNothing p → HasNone m 10 10
-  hidden_none none f within h =
-      let low = within.lower in
-      let high = within.upper in
-      let e = at_hidden f (omega (arith, low, high)) in
-      let t : HasFault m (HiddenEnd (value 1 f) (hidden_net f) (value 2 f)) = subst (λ (g : FaultCase). HasFault m g) e h in
-      isnt_hidden none (permit_at (permits_in m) (value 1 f)) (hidden_net f) (value 2 f) t.2
-
-  pub walks_first : IsSound p → IsSite m.site → HidesNothing p → IsFirstCase m 9 11 (option_or (path_case m) (lines_case m))
-  walks_first sound site none =
-      let hidden = of_none m 10 10 (hidden_none none) in
-      let front = joined m 9 9 10 (omega arith) (omega arith) (path_case m) None (path_first sound site) hidden in
-      joined m 9 10 11 (omega arith) (omega arith) (path_case m) (lines_case m) (subst (λ (o : Option FaultCase). IsFirstCase m 9 10 o) (or_none (path_case m)) front) lines_first

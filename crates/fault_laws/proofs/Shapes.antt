@@ -41,11 +41,11 @@ starts permits (NatInside net tag) = (net ∷ tag ∷ [], refl)
 starts permits LimitViews = ([], refl)
 starts permits (SamePrefix net other at) = (_, refl)
 starts permits (HostShadowed host net at) = (_, refl)
-starts permits (IfaceShadowed iface net at) = (_, refl)
+starts permits (IfaceShadowed iface shared net at) = (_, refl)
 starts permits (ManagedEnd service iface) = (service ∷ iface ∷ [], refl)
 starts permits LimitPermits = ([], refl)
 starts permits (NoPath src dst) = (src ∷ dst ∷ [], refl)
-starts permits (HiddenEnd permit net zone) = (_, refl)
+starts permits (HiddenEnd permit src dst net zone) = (_, refl)
 starts permits LimitLines = ([], refl)
 starts permits LimitRoutes = ([], refl)
 starts permits (NoHopAddress router net iface) = (router ∷ net ∷ iface ∷ [], refl)
@@ -66,9 +66,17 @@ value k f = slice_index (order_of [] f) k
 abbrev pub place_of : ℕ → ℕ → ViewPlace
 place_of k n = cond (k == 0) (AtZone n) (AtRouter n)
 
--- the network of a hidden end, which its order doesn't tell
+-- the networks of a hidden end's permit and the hidden one, which its order doesn't tell
+abbrev pub hidden_src : FaultCase → ℕ
+hidden_src (HiddenEnd permit src dst net zone) = src
+hidden_src _ = 0
+
+abbrev pub hidden_dst : FaultCase → ℕ
+hidden_dst (HiddenEnd permit src dst net zone) = dst
+hidden_dst _ = 0
+
 abbrev pub hidden_net : FaultCase → ℕ
-hidden_net (HiddenEnd permit net zone) = net
+hidden_net (HiddenEnd permit src dst net zone) = net
 hidden_net _ = 0
 
 -- as far as rows are treated here
@@ -83,7 +91,7 @@ shape r f =
     (cond (r == 7) (ManagedEnd (value 1 f) (value 2 f))
     (cond (r == 8) LimitPermits
     (cond (r == 9) (NoPath (value 1 f) (value 2 f))
-    (cond (r == 10) (HiddenEnd (value 1 f) (hidden_net f) (value 2 f))
+    (cond (r == 10) (HiddenEnd (value 1 f) (hidden_src f) (hidden_dst f) (hidden_net f) (value 2 f))
     (cond (r == 11) LimitLines
     (cond (r == 12) LimitRoutes f)))))))))))
 
@@ -96,11 +104,11 @@ its_shape LimitViews = refl
 its_shape (SamePrefix net other (AtZone z)) = refl
 its_shape (SamePrefix net other (AtRouter r)) = refl
 its_shape (HostShadowed host net at) = refl
-its_shape (IfaceShadowed iface net at) = refl
+its_shape (IfaceShadowed iface shared net at) = refl
 its_shape (ManagedEnd service iface) = refl
 its_shape LimitPermits = refl
 its_shape (NoPath src dst) = refl
-its_shape (HiddenEnd permit net zone) = refl
+its_shape (HiddenEnd permit src dst net zone) = refl
 its_shape LimitLines = refl
 its_shape LimitRoutes = refl
 its_shape (NoHopAddress router net iface) = refl
@@ -136,7 +144,7 @@ at_permits f e = at_row 8 f e
 pub at_path : (f : FaultCase) → row_of f ≡ 9 → f ≡ NoPath (value 1 f) (value 2 f)
 at_path f e = at_row 9 f e
 
-pub at_hidden : (f : FaultCase) → row_of f ≡ 10 → f ≡ HiddenEnd (value 1 f) (hidden_net f) (value 2 f)
+pub at_hidden : (f : FaultCase) → row_of f ≡ 10 → f ≡ HiddenEnd (value 1 f) (hidden_src f) (hidden_dst f) (hidden_net f) (value 2 f)
 at_hidden f e = at_row 10 f e
 
 pub at_lines : (f : FaultCase) → row_of f ≡ 11 → f ≡ LimitLines

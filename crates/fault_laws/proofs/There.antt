@@ -10,12 +10,13 @@ use Rattle.policy_model.specs.Lists.{has, once_each, numbers_below}
 use Rattle.policy_model.specs.Policy.{Policy, Group, Rule, Service, ObjectExpr, NoObjects, OneNet, OneHost, OneIface, OfGroup, OfAggregate, OfArea, OfUser, NetsOf, HostsOf, ZonesOf, Joined, Common, Without, no_group, net_of, host_of, iface_of, group_of, aggregate_of, net_at, router_at, is_managed, all_nets, all_hosts}
 use Rattle.policy_model.specs.Zones.{Site, zone_of, nets_in}
 use Rattle.policy_model.specs.Objects.{Object, NetObject, HostObject, IfaceObject, same_object, has_object, area_zones, area_nets, net_of_object, hosts_of_object, is_asked, zone_nets, objects_by, group_objects, objects_of}
-use Rattle.policy_model.specs.Permits.{End, Permit, net_end, one_address, ends_of, ends_in, rule_permits, service_permits, permits_of}
+use Rattle.policy_model.specs.Permits.{End, Permit, net_end, one_address, ends_of, ends_in, rule_items, service_items, items_of, listed_permits, listed_denials, pieces_left_by, permits_of}
 use Rattle.policy_model.specs.Faults.{is_managed_end, has_managed_end}
 use Rattle.policy_model.specs.FirstFault.{no_service}
 use Rattle.policy_model.proofs.AllWalks.{IsIn, from_map}
 use Rattle.list_laws.proofs.Members.{in_either, from_filter, some_in, each_in}
 use Rattle.list_laws.proofs.Tables.{from_flat_map}
+use Rattle.piece_laws.proofs.Left.{kept, same_ends}
 use Rattle.topology.specs.Sound.{IsSound, is_sound_expr, is_sound_rule, is_sound_service}
 use Rattle.fault_laws.proofs.Orders.{from_numbers}
 
@@ -199,20 +200,28 @@ module _ (s : Site) (sound : IsSound s.policy) (count : ℕ) (nets : length s.po
         let w = from_map (λ box. record { src = src; dst = dst; box = box }) q boxes h in
         subst Between (sym {b = record { src = src; dst = dst; box = w.0 }} w.2) (here, there)
 
-    rule_there : (user : List Object) → AllIn There user → (rule : Rule) → is_sound_rule p rule ≡ true → AllIn Between (rule_permits s areas user rule)
+    rule_there : (user : List Object) → AllIn There user → (rule : Rule) → is_sound_rule p rule ≡ true → AllIn Between (rule_items s areas user rule)
     rule_there user in_user rule ok q h =
         let ends = ends_sound rule ok in
         let a = from_flat_map (λ src. flat_map (λ dst. map (λ box. record { src = src; dst = dst; box = box }) rule.boxes) (ends_in s areas user rule.dst)) q (ends_in s areas user rule.src) h in
         let b = from_flat_map (λ dst. map (λ box. record { src = a.0; dst = dst; box = box }) rule.boxes) q (ends_in s areas user rule.dst) a.2 in
         boxes_there a.0 b.0 (ends_in_there user in_user rule.src ends.0 a.0 a.1) (ends_in_there user in_user rule.dst ends.1 b.0 b.1) rule.boxes q b.2
 
-    pub permit_there : (q : Permit) → IsIn q (permits_of s areas) → Between q
-    permit_there q h =
-        let a = from_flat_map (service_permits s areas) q p.services h in
+    item_there : (test : Rule → Bool) (q : Permit) → IsIn q (items_of s areas test) → Between q
+    item_there test q h =
+        let a = from_flat_map (service_items s areas test) q p.services h in
         let service : Service = a.0 in
         let ok = each_in (is_sound_service p) p.services sound.sets.services service a.1 in
-        let b = from_flat_map (rule_permits s areas (user_of service)) q service.rules a.2 in
-        rule_there (user_of service) (user_there service ok) b.0 (rules_sound service ok b.0 b.1) q b.2
+        let b = from_flat_map (rule_items s areas (user_of service)) q (filter test service.rules) a.2 in
+        rule_there (user_of service) (user_there service ok) b.0 (rules_sound service ok b.0 (from_filter test b.0 service.rules b.1).0) q b.2
+
+    pub permit_there : (q : Permit) → IsIn q (permits_of s areas) → Between q
+    permit_there q h =
+        let a = from_flat_map (λ x. pieces_left_by (listed_denials s areas) (x ∷ [])) q (listed_permits s areas) h in
+        let own : Between a.0 = item_there (λ rule. not rule.deny) a.0 a.1 in
+        kept Between (listed_denials s areas)
+        (λ d j x y hx i. let e = same_ends d x y i in (subst (λ (n : ℕ). n < count) (sym e.0) hx.0, subst (λ (n : ℕ). n < count) (sym e.1) hx.1))
+        (a.0 ∷ []) (λ x i. ⊎_elim (λ e. subst Between (sym e) own) (λ none. absurd none) i) q a.2
 
 -- a service of a sound policy, by its place
 pub service_is_sound : (p : Policy) → IsSound p → (k : ℕ) → k < length p.services → is_sound_service p (slice_index_or p.services k no_service) ≡ true

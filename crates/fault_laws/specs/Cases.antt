@@ -8,7 +8,7 @@ use Rattle.policy_model.specs.Lists.{numbers_below, pairs_of}
 use Rattle.policy_model.specs.Policy.{Policy, Service, net_of, router_at, all_nets, all_routers, all_ifaces, all_tags}
 use Rattle.policy_model.specs.Zones.{Site, zone_at, zone_count}
 use Rattle.policy_model.specs.Tags.{binds, keeps_tag}
-use Rattle.policy_model.specs.Permits.{Permit}
+use Rattle.policy_model.specs.Permits.{Permit, permit_count}
 use Rattle.policy_model.specs.Blocks.{permit_at}
 use Rattle.policy_model.specs.Faults.{is_split, is_translated_twice, is_translated_inside, view_count, is_same_prefix, has_managed_end, has_no_path, is_hidden_end}
 use Rattle.policy_model.specs.FirstFault.{FaultCase, AreaSplit, NatConflict, NatTwice, NatInside, LimitViews, SamePrefix, ManagedEnd, LimitPermits, NoPath, HiddenEnd, LimitLines, LimitRoutes, ViewPlace, AtZone, AtRouter, view_at, most_views, most_items, line_count, route_count, no_service}
@@ -106,9 +106,9 @@ managed_case m =
     first_case (λ e. ManagedEnd e.0 e.1) (λ e. has_managed_end m.site m.areas (service_of m.site.policy e.0) e.1)
     (pairs_of (all_services m.site.policy) (all_ifaces m.site.policy))
 
--- too many expanded permits
+-- too many listed permits, listed denials or expanded permits
 abbrev pub permits_case : Meaning → Option FaultCase
-permits_case m = case_if (nat_lt most_items (length (permits_in m))) LimitPermits
+permits_case m = case_if (nat_lt most_items (permit_count m.site m.areas)) LimitPermits
 
 -- ---- walks
 
@@ -127,10 +127,14 @@ end_net q is_dst = if is_dst then q.dst.net else q.src.net
 abbrev pub is_end_hidden : Meaning → ℕ → ℕ → Bool → Bool
 is_end_hidden m k z is_dst = is_hidden_end m.site m.views (permit_at (permits_in m) k) (end_net (permit_at (permits_in m) k) is_dst) z
 
+-- the fault that the end of the k-th permit is hidden in a zone
+abbrev pub hidden_fault : List Permit → ℕ → Bool → ℕ → FaultCase
+hidden_fault permits k is_dst z = HiddenEnd k (permit_at permits k).src.net (permit_at permits k).dst.net (end_net (permit_at permits k) is_dst) z
+
 -- a permit, and a zone of an allowed walk of it in which its source is hidden, or its destination
 abbrev pub hidden_case : Meaning → Option FaultCase
 hidden_case m =
-    first_case (λ e. HiddenEnd e.0.0 (end_net (permit_at (permits_in m) e.0.0) e.1) e.0.1) (λ e. is_end_hidden m e.0.0 e.0.1 e.1)
+    first_case (λ e. hidden_fault (permits_in m) e.0.0 e.1 e.0.1) (λ e. is_end_hidden m e.0.0 e.0.1 e.1)
     (pairs_of (pairs_of (numbers_below (length (permits_in m))) (all_zones m.site)) (false ∷ true ∷ []))
 
 -- too many lines before they are optimised
@@ -140,7 +144,3 @@ lines_case m = case_if (nat_lt most_items (line_count m.site m.views (permits_in
 -- too many networks to which a static router has a hop that isn't direct
 abbrev pub routes_case : Meaning → Option FaultCase
 routes_case m = case_if (nat_lt most_items (route_count m.site (permits_in m))) LimitRoutes
-
--- No tag of a network hides it.
-abbrev pub HidesNothing : Policy → Type 0
-HidesNothing p = (n : ℕ) → n < length p.nets → IsTrue (list_all (λ nat. is_some nat.1) (net_of p n).nats)

@@ -6,7 +6,7 @@ ghost use Rattle.policy_model.specs.FirstFault.{FaultCase};
 ghost use Rattle.policy_model.specs.Headline.{Meaning};
 ghost use Rattle.policy_model.specs.Zones.{IsSite};
 ghost use Rattle.topology.specs.Sound.{IsSound};
-ghost use Rattle.fault_laws.specs.Cases.{IsFirstCase, HidesNothing, first_of, conflict_case, twice_case, inside_case, managed_case, permits_case, path_case, hidden_case, lines_case};
+ghost use Rattle.fault_laws.specs.Cases.{IsFirstCase, first_of, conflict_case, twice_case, inside_case, managed_case, permits_case, path_case, hidden_case, lines_case};
 
 /// What is found in rows, or else in the rows after them, is what is found in all of these.
 pub fn faults_are_joined()
@@ -27,9 +27,4 @@ pub fn first_fault_of_services()
 /// The first fault of walks: a permit that none carries, or else a hidden end, or else too many lines.
 pub fn first_fault_of_walks()
     ensures { (m : Meaning) → IsSound m.site.policy → IsSite m.site → IsFirstCase m 9 11 (first_of (path_case m ∷ hidden_case m ∷ lines_case m ∷ [])) }
-{}
-
-/// Where no tag hides a network, no hidden end counts.
-pub fn first_fault_of_walks_where_nothing_is_hidden()
-    ensures { (m : Meaning) → IsSound m.site.policy → IsSite m.site → HidesNothing m.site.policy → IsFirstCase m 9 11 (first_of (path_case m ∷ lines_case m ∷ [])) }
 {}

@@ -8,7 +8,6 @@ mod rows;
 
 pub use joined::{
     faults_are_joined, first_fault_of_services, first_fault_of_tags, first_fault_of_walks,
-    first_fault_of_walks_where_nothing_is_hidden,
 };
 pub use rows::{
     first_conflict, first_hidden_end, first_inside, first_managed_end, first_same_prefix,

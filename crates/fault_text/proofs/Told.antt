@@ -1,5 +1,5 @@
 -- The line of a fault that tells a case.
-use Rattle.std.proofs.Common.{◌≡◌, ◌∙◌, refl, ap, ℕ, List, [], ◌∷◌, ◌++◌, map, append_assoc, append-nil, Option, Some, None}
+use Rattle.std.proofs.Common.{◌≡◌, ◌∙◌, refl, ap, ℕ, List, [], ◌∷◌, ◌++◌, map, append_assoc, append-nil, Option, Some, None, Bool}
 use Rattle.std.specs.Prelude.{codes, flat_map}
 use Rattle.spoc_base.specs.declared.place.Source.{Source}
 use Rattle.spoc_base.specs.declared.place.Kind.TheVariants as kind
@@ -96,13 +96,13 @@ module _ (sources : List Source) (s : Site) where
       λ j. line_of (codes "HostShadowed") (a j ∷ b j ∷ c j ∷ [])
   host_told k other place f h = absurd h
 
-  iface_told : (i other : ℕ) (place : ViewPlace) (f : Fault) → IsItsLine (IfaceShadowed i other place) f
-  iface_told i other place (fault.HostShadowed name net seen) h =
+  iface_told : (i : ℕ) (shared : Bool) (other : ℕ) (place : ViewPlace) (f : Fault) → IsItsLine (IfaceShadowed i shared other place) f
+  iface_told i shared other place (fault.HostShadowed name net seen) h =
       let a = its_iface i name h.0 in
       let b = net_is other net h.1 in
       let c = place_is place seen h.2 in
       λ j. line_of (codes "HostShadowed") (a j ∷ b j ∷ c j ∷ [])
-  iface_told i other place f h = absurd h
+  iface_told i shared other place f h = absurd h
 
   managed_told : (k i : ℕ) (f : Fault) → IsItsLine (ManagedEnd k i) f
   managed_told k i (fault.ManagedEnd service iface) h =
@@ -117,6 +117,15 @@ module _ (sources : List Source) (s : Site) where
       let b = net_is w dst h.1 in
       λ j. line_of (codes "NoPath") (a j ∷ b j ∷ [])
   path_told u w f h = absurd h
+
+  hidden_told : (k u w n z : ℕ) (f : Fault) → IsItsLine (HiddenEnd k u w n z) f
+  hidden_told k u w n z (fault.HiddenEnd src dst net zone) h =
+      let a = net_is u src h.0 in
+      let b = net_is w dst h.1 in
+      let c = net_is n net h.2 in
+      let d = zone_is z zone h.3 in
+      λ j. line_of (codes "HiddenEnd") (a j ∷ b j ∷ c j ∷ d j ∷ [])
+  hidden_told k u w n z f h = absurd h
 
   bare_told : (r n i : ℕ) (f : Fault) → IsItsLine (NoHopAddress r n i) f
   bare_told r n i (fault.NoHopAddress router net iface) h =
@@ -163,7 +172,7 @@ module _ (sources : List Source) (s : Site) where
   told (NatInside n tag) f = inside_told n tag f
   told (SamePrefix n other place) f = same_told n other place f
   told (HostShadowed k other place) f = host_told k other place f
-  told (IfaceShadowed i other place) f = iface_told i other place f
+  told (IfaceShadowed i shared other place) f = iface_told i shared other place f
   told (ManagedEnd k i) f = managed_told k i f
   told (NoPath u w) f = path_told u w f
   told (NoHopAddress r n i) f = bare_told r n i f
@@ -172,4 +181,4 @@ module _ (sources : List Source) (s : Site) where
   told LimitLines f = lines_told f
   told LimitRoutes f = routes_told f
   told (AmbiguousHop r n one two) f = two_hops_told r n one two f
-  told (HiddenEnd k n z) f = λ h. absurd h
+  told (HiddenEnd k u w n z) f = hidden_told k u w n z f

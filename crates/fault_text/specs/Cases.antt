@@ -52,7 +52,7 @@ hop_shown p h = go h.next
     go (Some i) = iface_shown p i
     go None = under (codes "direct") (iface_name p h.out)
 
--- the words that name the fault; no fault is told of a hidden end
+-- the words that name the fault
 abbrev pub case_word : FaultCase → List ℕ
 case_word (AreaSplit area border) = codes "AreaSplit"
 case_word (NatConflict tag zone) = codes "NatConflict"
@@ -61,11 +61,11 @@ case_word (NatInside net tag) = codes "NatInside"
 case_word LimitViews = codes "Limit views"
 case_word (SamePrefix net other at) = codes "SamePrefix"
 case_word (HostShadowed host net at) = codes "HostShadowed"
-case_word (IfaceShadowed iface net at) = codes "HostShadowed"
+case_word (IfaceShadowed iface shared net at) = codes "HostShadowed"
 case_word (ManagedEnd service iface) = codes "ManagedEnd"
 case_word LimitPermits = codes "Limit permits"
 case_word (NoPath src dst) = codes "NoPath"
-case_word (HiddenEnd permit net zone) = []
+case_word (HiddenEnd permit src dst net zone) = codes "HiddenEnd"
 case_word LimitLines = codes "Limit lines"
 case_word LimitRoutes = codes "Limit routes"
 case_word (NoHopAddress router net iface) = codes "NoHopAddress"
@@ -80,11 +80,11 @@ case_names s (NatInside net tag) = net_shown s.policy net ∷ tag_shown s.policy
 case_names s LimitViews = []
 case_names s (SamePrefix net other at) = net_shown s.policy net ∷ net_shown s.policy other ∷ place_shown s at ∷ []
 case_names s (HostShadowed host net at) = host_shown s.policy host ∷ net_shown s.policy net ∷ place_shown s at ∷ []
-case_names s (IfaceShadowed iface net at) = iface_shown s.policy iface ∷ net_shown s.policy net ∷ place_shown s at ∷ []
+case_names s (IfaceShadowed iface shared net at) = iface_shown s.policy iface ∷ net_shown s.policy net ∷ place_shown s at ∷ []
 case_names s (ManagedEnd service iface) = service_shown s.policy service ∷ iface_shown s.policy iface ∷ []
 case_names s LimitPermits = []
 case_names s (NoPath src dst) = net_shown s.policy src ∷ net_shown s.policy dst ∷ []
-case_names s (HiddenEnd permit net zone) = []
+case_names s (HiddenEnd permit src dst net zone) = net_shown s.policy src ∷ net_shown s.policy dst ∷ net_shown s.policy net ∷ zone_shown s zone ∷ []
 case_names s LimitLines = []
 case_names s LimitRoutes = []
 case_names s (NoHopAddress router net iface) = router_shown s.policy router ∷ net_shown s.policy net ∷ iface_shown s.policy iface ∷ []

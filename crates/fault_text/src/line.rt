@@ -206,6 +206,7 @@ fn fault_word(fault: Fault) -> &'static [u8]
         Fault::ManagedEnd { .. } => b"ManagedEnd",
         Fault::LimitPermits => b"Limit permits",
         Fault::NoPath { .. } => b"NoPath",
+        Fault::HiddenEnd { .. } => b"HiddenEnd",
         Fault::LimitLines => b"Limit lines",
         Fault::LimitRoutes => b"Limit routes",
         Fault::NoHopAddress { .. } => b"NoHopAddress",
@@ -258,6 +259,12 @@ fn add_things(line: &mut Vec<u8>, sources: &[Source], fault: Fault) -> Result<()
         Fault::HostShadowed { name, net, at } => add_names(line, sources, &[name, net, at]),
         Fault::ManagedEnd { service, iface } => add_names(line, sources, &[service, iface]),
         Fault::NoPath { src, dst } => add_names(line, sources, &[src, dst]),
+        Fault::HiddenEnd {
+            src,
+            dst,
+            net,
+            zone,
+        } => { add_names(line, sources, &[src, dst, net, zone]) }
         Fault::NoHopAddress { router, net, iface } => {
             add_names(line, sources, &[router, net, iface])
         }
@@ -286,6 +293,3 @@ pub fn fault_line(alloc: Global, fault: Fault, sources: &[Source]) -> Result<Tex
     line.extend_from_slice(b"\n")?;
     Text::of(alloc, &line)
 }
-
-#[cfg(test)]
-mod tests;

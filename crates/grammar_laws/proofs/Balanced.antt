@@ -8,9 +8,9 @@ use Rattle.spoc_parser.specs.declared.forms.Form.{Form}
 use Rattle.spoc_parser.specs.declared.forms.Form.TheVariants.{Any, Name, Address, Prefix, Number, Range, Ports, Icmp, Filter, Routing, Note, ListKey, ValueKey, Flag}
 use Rattle.token_checks.specs.Nesting.{level_behind}
 use Rattle.grammar_laws.specs.Levels.{level_past}
-use Rattle.spoc_parser.specs.Trees.{Lexeme, network, host, port, group, aggregate, area, user, nets, hosts, anys, host_ip, host_range, host_idle, nat_ip, net_ip, net_host, net_nat, net_idle, iface_ip, iface_hardware, iface_bind_nat, iface_idle, router_managed, router_model, router_routing, router_iface, router_idle, area_anchor, area_border, area_idle, any_link, any_ip, any_idle, proto_ip, proto_tcp, proto_udp, proto_icmp, proto_number, one_proto, a_protocol, a_protogroup, network_decl, router_decl, group_decl, area_decl, aggregate_decl, protocol_decl, protogroup_decl, restriction_decl, service_decl}
+use Rattle.spoc_parser.specs.Trees.{Lexeme, network, host, port, group, aggregate, area, user, nets, hosts, anys, host_ip, host_range, host_idle, nat_ip, nat_hidden, net_ip, net_host, net_nat, net_idle, virt_ip, virt_kind, virt_id, iface_ip, iface_hardware, iface_bind_nat, iface_virtual, iface_idle, router_managed, router_model, router_routing, router_iface, router_idle, area_anchor, area_border, area_idle, any_link, any_ip, any_idle, proto_ip, proto_tcp, proto_udp, proto_icmp, proto_number, one_proto, a_protocol, a_protogroup, network_decl, router_decl, group_decl, area_decl, aggregate_decl, protocol_decl, protogroup_decl, restriction_decl, service_decl}
 use Rattle.spoc_parser.specs.Phrases.{Phrase, ◌then◌, ◌or◌, nothing, never, where_true, word_token, sign, key, a_word, named, at_port, a_text, spread, perhaps, many, some, further, listed, listed_open, single, none_of}
-use Rattle.spoc_parser.specs.Grammar.{SpellsDesc, SpellsIdle, setting, body, body_with, SpellsHostItem, SpellsNatItem, SpellsNetItem, SpellsIfaceItem, SpellsRouterItem, SpellsAreaItem, SpellsAnyItem, spread_or_none, SpellsProto, SpellsProtoItem, SpellsTermOf, mark, SpellsFurther, SpellsInter, SpellsSet, SpellsNone, SpellsSetIn, SpellsRule, SpellsDecl, SpellsDeclIn, SpellsFile}
+use Rattle.spoc_parser.specs.Grammar.{SpellsDesc, SpellsIdle, setting, body, body_with, SpellsHostItem, SpellsNatItem, SpellsNetItem, SpellsVirtItem, SpellsIfaceItem, SpellsRouterItem, SpellsAreaItem, SpellsAnyItem, spread_or_none, SpellsProto, SpellsProtoItem, SpellsTermOf, mark, SpellsFurther, SpellsInter, SpellsSet, SpellsNone, SpellsSetIn, action, SpellsRule, SpellsDecl, SpellsDeclIn, SpellsFile}
 
 -- the level behind the phrase is the level in front of it
 pub record IsEven (P : Phrase) : Type 0 where
@@ -178,6 +178,7 @@ host_item_even (host_idle idle) = idle_even idle
 
 nat_item_even : AreEven SpellsNatItem
 nat_item_even (nat_ip prefix) = setting_even (codes "ip") Prefix prefix
+nat_item_even nat_hidden = then_even (key_even (codes "hidden")) end_even
 
 net_item_even : AreEven SpellsNetItem
 net_item_even (net_ip prefix) = setting_even (codes "ip") Prefix prefix
@@ -185,10 +186,16 @@ net_item_even (net_host name parts) = then_even (named_even (codes "host:") name
 net_item_even (net_nat tag parts) = then_even (named_even (codes "nat:") tag) (body_even SpellsNatItem nat_item_even parts)
 net_item_even (net_idle idle) = idle_even idle
 
+virt_item_even : AreEven SpellsVirtItem
+virt_item_even (virt_ip address) = setting_even (codes "ip") Address address
+virt_item_even (virt_kind word) = setting_even (codes "type") Any word
+virt_item_even (virt_id number) = setting_even (codes "id") Number number
+
 iface_item_even : AreEven SpellsIfaceItem
 iface_item_even (iface_ip address) = setting_even (codes "ip") Address address
 iface_item_even (iface_hardware word) = setting_even (codes "hardware") Any word
 iface_item_even (iface_bind_nat tags) = set_even (codes "bind_nat") (then_even (listed_even (a_word Name) (a_word_even Name) tags) end_even)
+iface_item_even (iface_virtual parts) = then_even (key_even (codes "virtual")) (body_even SpellsVirtItem virt_item_even parts)
 iface_item_even (iface_idle idle) = idle_even idle
 
 filter_even : AreEven (λ word. sign (codes "=") then a_word Filter word)
@@ -278,7 +285,7 @@ module _ {S : Type 0} (spells : S → Phrase) (even : AreEven spells) where
   side_even name set p = set_even name (then_even (even set) (then_even end_even p))
 
   pub rule_even : AreEven (SpellsRule spells)
-  rule_even rule = then_even (key_even (codes "permit")) (side_even (codes "src") rule.src (side_even (codes "dst") rule.dst (set_even (codes "prt") (then_even (listed_open_even SpellsProtoItem proto_item_even rule.prts) end_even))))
+  rule_even rule = then_even (key_even (action rule.deny)) (side_even (codes "src") rule.src (side_even (codes "dst") rule.dst (set_even (codes "prt") (then_even (listed_open_even SpellsProtoItem proto_item_even rule.prts) end_even))))
 
 module _ {S : Type 0} (spells in_rules : S → Phrase) (even : AreEven spells) (even_in_rules : AreEven in_rules) where
   pub decl_even : AreEven (SpellsDecl spells in_rules)

@@ -6,7 +6,7 @@ use Rattle.token_checks.specs.Places.{passes_there, NonePasses}
 use Rattle.token_checks.specs.Nesting.{most_levels, level_behind, opens_beyond, is_too_deep_at}
 use Rattle.spoc_parser.specs.Trees.{network, host, port, group, aggregate, area, user, nets, hosts, anys, network_decl, router_decl, group_decl, area_decl, aggregate_decl, protocol_decl, protogroup_decl, restriction_decl, service_decl, DeclIn}
 use Rattle.spoc_parser.specs.Phrases.{Phrase, ◌then◌, sign, perhaps, many, some, further, listed, listed_open}
-use Rattle.spoc_parser.specs.Grammar.{SpellsIdle, SpellsTermOf, SpellsFurther, SpellsInter, SpellsSet, SpellsSetIn, SpellsRule, SpellsDecl, SpellsDeclIn, SpellsFile}
+use Rattle.spoc_parser.specs.Grammar.{SpellsIdle, SpellsTermOf, SpellsFurther, SpellsInter, SpellsSet, SpellsSetIn, action, SpellsRule, SpellsDecl, SpellsDeclIn, SpellsFile}
 use Rattle.grammar_laws.specs.Levels.{level_past, most_set_levels, term_with, further_with, inter_with, set_with, raised, rule_with, decl_with, raised_decl, above, raised_by}
 use Rattle.grammar_laws.proofs.Balanced.{IsEven, AreEven, sign_token, named_even, key_even, sign_even, comma_even, mark_even, desc_part_even, inside_part_even, many_even, idle_even, term_even, other_even, inter_even, set_in_even, rule_even, decl_in_even, file_even}
 
@@ -171,8 +171,8 @@ end_even = sign_even (codes ";") (λ level start. refl)
 module _ {level : ℕ} {S T : Type 0} (f : S → T) (P : S → Phrase) (Q : T → Phrase) (even : AreEven Q) (lowers : Lowers level f P Q) where
   pub rule_lowers : Lowers level (rule_with f) (SpellsRule P) (SpellsRule Q)
   rule_lowers rule =
-      finds_as (λ x. (record { src = x.0.0; dst = x.1.0; prts = rule.prts }, λ i. record { src = x.0.1 i; dst = x.1.1 i; prts = rule.prts }))
-      (finds_behind (key_even (codes "permit")) (finds_behind (key_even (codes "src")) (finds_behind equals_even (finds_both (even rule.src) (lowers rule.src)
+      finds_as (λ x. (record { deny = rule.deny; src = x.0.0; dst = x.1.0; prts = rule.prts }, λ i. record { deny = rule.deny; src = x.0.1 i; dst = x.1.1 i; prts = rule.prts }))
+      (finds_behind (key_even (action rule.deny)) (finds_behind (key_even (codes "src")) (finds_behind equals_even (finds_both (even rule.src) (lowers rule.src)
       (finds_behind end_even (finds_behind (key_even (codes "dst")) (finds_behind equals_even (finds_front (lowers rule.dst)))))))))
 
 -- a declaration outside brackets: a group's set is at level 0, and those of a service are at level 1

@@ -4,11 +4,11 @@ use Rattle.std.specs.Prelude.{codes}
 use Rattle.spoc_lexer.specs.Tokens.{Tok}
 use Rattle.spoc_parser.specs.declared.forms.Form.{Form}
 use Rattle.spoc_parser.specs.declared.forms.Form.TheVariants.{Any, Name, Address, Prefix, Number, Range, Ports, Icmp, Filter, Routing, Note, ListKey, ValueKey, Flag}
-use Rattle.spoc_parser.specs.Trees.{Lexeme, TermOf, network, host, port, group, aggregate, area, user, nets, hosts, anys, host_ip, host_range, host_idle, nat_ip, net_ip, net_host, net_nat, net_idle, iface_ip, iface_hardware, iface_bind_nat, iface_idle, router_managed, router_model, router_routing, router_iface, router_idle, area_anchor, area_border, area_idle, any_link, any_ip, any_idle, proto_ip, proto_tcp, proto_udp, proto_icmp, proto_number, ProtoItem, one_proto, a_protocol, a_protogroup, RuleOf, DeclOf, network_decl, router_decl, group_decl, area_decl, aggregate_decl, protocol_decl, protogroup_decl, restriction_decl, service_decl}
+use Rattle.spoc_parser.specs.Trees.{Lexeme, TermOf, network, host, port, group, aggregate, area, user, nets, hosts, anys, host_ip, host_range, host_idle, nat_ip, nat_hidden, net_ip, net_host, net_nat, net_idle, virt_ip, virt_kind, virt_id, iface_ip, iface_hardware, iface_bind_nat, iface_virtual, iface_idle, router_managed, router_model, router_routing, router_iface, router_idle, area_anchor, area_border, area_idle, any_link, any_ip, any_idle, proto_ip, proto_tcp, proto_udp, proto_icmp, proto_number, ProtoItem, one_proto, a_protocol, a_protogroup, RuleOf, DeclOf, network_decl, router_decl, group_decl, area_decl, aggregate_decl, protocol_decl, protogroup_decl, restriction_decl, service_decl}
 use Rattle.spoc_parser.specs.Phrases.{Phrase, ◌then◌, ◌or◌, sign, key, a_word, named, perhaps, many, some, listed_open, none_of}
-use Rattle.spoc_parser.specs.Grammar.{SpellsDesc, SpellsIdle, setting, body, body_with, SpellsHostItem, SpellsNatItem, SpellsNetItem, SpellsIfaceItem, SpellsRouterItem, SpellsAreaItem, SpellsAnyItem, SpellsProto, SpellsProtoItem, SpellsTermOf, mark, SpellsFurther, SpellsInter, SpellsSetIn, SpellsRule, SpellsDecl, SpellsDeclIn}
+use Rattle.spoc_parser.specs.Grammar.{SpellsDesc, SpellsIdle, setting, body, body_with, SpellsHostItem, SpellsNatItem, SpellsNetItem, SpellsVirtItem, SpellsIfaceItem, SpellsRouterItem, SpellsAreaItem, SpellsAnyItem, SpellsProto, SpellsProtoItem, SpellsTermOf, mark, SpellsFurther, SpellsInter, SpellsSetIn, action, SpellsRule, SpellsDecl, SpellsDeclIn}
 use Rattle.spoc_parser.specs.Readers.{Reader, then_read, ◌>>=◌, done, past, at_sign, read_named}
-use Rattle.spoc_parser.specs.Reading.{read_desc, no_desc, read_desc_part, idle_of, read_list_idle, read_value_idle, read_flag_idle, read_idle, read_setting, read_at_network, read_parts, read_body, read_opening, read_host_ip, read_host_range, read_host_item, read_nat_item, read_net_ip, read_host, read_nat, read_net_item, read_iface_ip, read_hardware, read_bind_nat, read_iface_item, read_iface_body, read_iface, no_value, read_filter, read_managed, read_model, read_routing, read_router_item, read_anchor, read_border, read_area_item, read_link, read_any_ip, read_any_item, read_tcp, read_udp, read_icmp, read_number, read_proto, read_proto_item, read_bracket, no_prefix, read_inside, read_anys, read_named_term, read_term_of, read_signed, read_other, no_other, read_inter, read_set_in, read_side, read_prts, rule_of, read_rule, read_rules, no_idle, read_group, read_protocol, read_protogroup, read_restriction, read_service, read_decl, read_decl_in}
+use Rattle.spoc_parser.specs.Reading.{read_desc, no_desc, read_desc_part, idle_of, read_list_idle, read_value_idle, read_flag_idle, read_idle, read_setting, read_at_network, read_parts, read_body, read_opening, read_host_ip, read_host_range, read_host_item, read_hidden, read_nat_ip, read_nat_item, read_net_ip, read_host, read_nat, read_net_item, read_virt_ip, read_virt_kind, read_virt_id, read_virt_item, read_iface_ip, read_hardware, read_bind_nat, read_virtual, read_iface_item, read_iface_body, read_iface, no_value, read_filter, read_managed, read_model, read_routing, read_router_item, read_anchor, read_border, read_area_item, read_link, read_any_ip, read_any_item, read_tcp, read_udp, read_icmp, read_number, read_proto, read_proto_item, read_bracket, no_prefix, read_inside, read_anys, read_named_term, read_term_of, read_signed, read_other, no_other, read_inter, read_set_in, read_side, read_prts, rule_of, read_action, read_rule, read_rules, no_idle, read_group, read_protocol, read_protogroup, read_restriction, read_service, read_decl, read_decl_in}
 use Rattle.grammar_laws.proofs.Found.{Fronts, Sound, Behind, then_some, parts, in_turn, bind_sound, last_sound, more_sound, if_sound, past_sound, done_sound, refuse_sound, sign_shape, key_shape, sign_sound, key_sound, text_sound, word_sound, named_sound, port_sound, spread_sound, spread_or_none_sound, unless_sound, until_sound, listed_sound, listed_open_sound, further_sound}
 
 -- ---- phrases put together
@@ -80,7 +80,13 @@ host_item_sound = if_sound _ ip (if_sound _ range (last_sound host_idle idle_sou
         (λ _ f4 p4 f3 p3 f2 p2 f1 p1. (f1, _, p1, (f2, _, p2, (f3, f4, p3, p4, refl), refl), refl))
 
 nat_item_sound : Sound SpellsNatItem read_nat_item
-nat_item_sound = last_sound nat_ip (setting_sound (codes "ip") Prefix) (λ x f p. p)
+nat_item_sound = if_sound _ hidden ip
+  where
+    hidden : Sound SpellsNatItem read_hidden
+    hidden = bind_sound (key_sound (codes "hidden")) λ _. last_sound (λ _. nat_hidden) (sign_sound (codes ";")) (λ _ f2 p2 f1 p1. (f1, f2, p1, p2, refl))
+
+    ip : Sound SpellsNatItem read_nat_ip
+    ip = last_sound nat_ip (setting_sound (codes "ip") Prefix) (λ x f p. p)
 
 net_item_sound : Sound SpellsNetItem read_net_item
 net_item_sound = if_sound _ ip (if_sound _ host_part (if_sound _ nat_part (last_sound net_idle idle_sound (λ x f p. p))))
@@ -96,8 +102,20 @@ net_item_sound = if_sound _ ip (if_sound _ host_part (if_sound _ nat_part (last_
 
 -- ---- routers
 
+virt_item_sound : Sound SpellsVirtItem read_virt_item
+virt_item_sound = if_sound _ ip (if_sound _ kind id)
+  where
+    ip : Sound SpellsVirtItem read_virt_ip
+    ip = last_sound virt_ip (setting_sound (codes "ip") Address) (λ x f p. p)
+
+    kind : Sound SpellsVirtItem read_virt_kind
+    kind = last_sound virt_kind (setting_sound (codes "type") Any) (λ x f p. p)
+
+    id : Sound SpellsVirtItem read_virt_id
+    id = last_sound virt_id (setting_sound (codes "id") Number) (λ x f p. p)
+
 iface_item_sound : Sound SpellsIfaceItem read_iface_item
-iface_item_sound = if_sound _ ip (if_sound _ hardware (if_sound _ bind_nat (last_sound iface_idle idle_sound (λ x f p. p))))
+iface_item_sound = if_sound _ ip (if_sound _ hardware (if_sound _ bind_nat (if_sound _ shared (last_sound iface_idle idle_sound (λ x f p. p)))))
   where
     ip : Sound SpellsIfaceItem read_iface_ip
     ip = last_sound iface_ip (setting_sound (codes "ip") Address) (λ x f p. p)
@@ -108,6 +126,9 @@ iface_item_sound = if_sound _ ip (if_sound _ hardware (if_sound _ bind_nat (last
     bind_nat : Sound SpellsIfaceItem read_bind_nat
     bind_nat = bind_sound (key_sound (codes "bind_nat")) λ _. bind_sound (sign_sound (codes "=")) λ _. bind_sound (listed_sound (word_sound Name)) λ tags. last_sound (λ _. iface_bind_nat tags) (sign_sound (codes ";"))
         (λ _ f4 p4 f3 p3 f2 p2 f1 p1. (f1, _, p1, (f2, _, p2, (f3, f4, p3, p4, refl), refl), refl))
+
+    shared : Sound SpellsIfaceItem read_virtual
+    shared = bind_sound (key_sound (codes "virtual")) λ _. last_sound iface_virtual (body_sound virt_item_sound) (λ x f2 p2 f1 p1. (f1, f2, p1, p2, refl))
 
 iface_body_sound : Sound (λ xs. (none_of xs then sign (codes ";")) or body SpellsIfaceItem xs) read_iface_body
 iface_body_sound = past_sound (done []) (sign_shape (codes ";")) (done_sound [] (λ f p. inl ([], f ++ [], refl, (p.0, ap (λ l. l ++ []) p.1), refl))) (more_sound (body_sound iface_item_sound) (λ x f p. inr p))
@@ -262,9 +283,12 @@ prts_sound : Sound to_items read_prts
 prts_sound = bind_sound (sign_sound (codes "=")) λ _. bind_sound (listed_open_sound proto_item_sound) λ prts. last_sound (λ _. prts) (sign_sound (codes ";"))
     (λ _ f3 p3 f2 p2 f1 p1. (f1, _, p1, (f2, f3, p2, p3, refl), refl))
 
+action_sound : Sound (λ deny. key (action deny)) read_action
+action_sound = past_sound (done true) (key_shape (codes "deny")) (done_sound true (λ f p. (p.0, ap (λ l. l ++ []) p.1))) (last_sound (λ _. false) (key_sound (codes "permit")) (λ x f p. p))
+
 rule_sound : {S : Type 0} {spells : S → Phrase} {read : Reader S} → Sound spells read → Sound (SpellsRule spells) (read_rule read)
 rule_sound {spells = spells} s =
-    bind_sound (key_sound (codes "permit")) λ _. bind_sound (side_sound (codes "src") s) λ src. bind_sound (side_sound (codes "dst") s) λ dst. bind_sound (key_sound (codes "prt")) λ _. last_sound (rule_of src dst) prts_sound
+    bind_sound action_sound λ deny. bind_sound (side_sound (codes "src") s) λ src. bind_sound (side_sound (codes "dst") s) λ dst. bind_sound (key_sound (codes "prt")) λ _. last_sound (rule_of deny src dst) prts_sound
     (λ prts f5 p5 f4 p4 f3 p3 f2 p2 f1 p1. (f1, _, p1, behind_side (codes "src") spells src _ f2 _ p2 (behind_side (codes "dst") spells dst (key (codes "prt") then to_items prts) f3 _ p3 (f4, f5, p4, p5, refl)), refl))
 
 rules_sound : {S : Type 0} {spells : S → Phrase} {read : Reader S} → Sound spells read → Sound (λ rules. some (SpellsRule spells) rules then sign (codes "}")) (read_rules read)

@@ -5,12 +5,12 @@ use Rattle.std.specs.Str.{bytes_eq}
 use Rattle.spoc_lexer.specs.Tokens.{Tok}
 use Rattle.spoc_parser.specs.declared.forms.Form.{Form}
 use Rattle.spoc_parser.specs.declared.forms.Form.TheVariants.{Any, Name, Address, Prefix, Number, Range, Ports, Icmp, Filter, Routing, Note, ListKey, ValueKey, Flag}
-use Rattle.spoc_parser.specs.Trees.{Lexeme, PortItem, IdleItem, TermOf, network, host, port, group, aggregate, area, user, nets, hosts, anys, InterOf, SetOf, SetIn, HostItem, host_ip, host_range, host_idle, NatItem, nat_ip, NetItem, net_ip, net_host, net_nat, net_idle, IfaceItem, iface_ip, iface_hardware, iface_bind_nat, iface_idle, RouterItem, router_managed, router_model, router_routing, router_iface, router_idle, AreaItem, area_anchor, area_border, area_idle, AnyItem, any_link, any_ip, any_idle, Proto, proto_ip, proto_tcp, proto_udp, proto_icmp, proto_number, ProtoItem, one_proto, a_protocol, a_protogroup, RuleOf, DeclOf, network_decl, router_decl, group_decl, area_decl, aggregate_decl, protocol_decl, protogroup_decl, restriction_decl, service_decl, DeclIn}
+use Rattle.spoc_parser.specs.Trees.{Lexeme, PortItem, IdleItem, TermOf, network, host, port, group, aggregate, area, user, nets, hosts, anys, InterOf, SetOf, SetIn, HostItem, host_ip, host_range, host_idle, NatItem, nat_ip, nat_hidden, NetItem, net_ip, net_host, net_nat, net_idle, VirtItem, virt_ip, virt_kind, virt_id, IfaceItem, iface_ip, iface_hardware, iface_bind_nat, iface_virtual, iface_idle, RouterItem, router_managed, router_model, router_routing, router_iface, router_idle, AreaItem, area_anchor, area_border, area_idle, AnyItem, any_link, any_ip, any_idle, Proto, proto_ip, proto_tcp, proto_udp, proto_icmp, proto_number, ProtoItem, one_proto, a_protocol, a_protogroup, RuleOf, DeclOf, network_decl, router_decl, group_decl, area_decl, aggregate_decl, protocol_decl, protogroup_decl, restriction_decl, service_decl, DeclIn}
 use Rattle.spoc_parser.specs.Texts.{is_name, is_list_key, is_value_key, is_flag}
 use Rattle.spoc_parser.specs.Phrases.{Phrase, ◌then◌, ◌or◌, sign, key, a_word, named, at_port, where_true, perhaps, many, some, single, listed, none_of}
-use Rattle.spoc_parser.specs.Grammar.{SpellsDesc, SpellsIdle, setting, body, body_with, SpellsHostItem, SpellsNatItem, SpellsNetItem, SpellsIfaceItem, SpellsRouterItem, SpellsAreaItem, SpellsAnyItem, SpellsProto, SpellsProtoItem, SpellsTermOf, mark, SpellsFurther, SpellsInter, SpellsSet, SpellsSetIn, SpellsRule, SpellsDecl, SpellsDeclIn}
+use Rattle.spoc_parser.specs.Grammar.{SpellsDesc, SpellsIdle, setting, body, body_with, SpellsHostItem, SpellsNatItem, SpellsNetItem, SpellsVirtItem, SpellsIfaceItem, SpellsRouterItem, SpellsAreaItem, SpellsAnyItem, SpellsProto, SpellsProtoItem, SpellsTermOf, mark, SpellsFurther, SpellsInter, SpellsSet, SpellsSetIn, action, SpellsRule, SpellsDecl, SpellsDeclIn}
 use Rattle.spoc_parser.specs.Readers.{Reader, then_read, ◌>>=◌, done, past, at_sign, at_key, at_kind, at_form, at_word, is_word, is_sign, read_named, list_ends}
-use Rattle.spoc_parser.specs.Reading.{read_desc, no_desc, read_desc_part, idle_of, read_list_idle, read_value_idle, read_flag_idle, read_idle, read_setting, read_at_network, read_parts, read_body, read_opening, read_host_item, read_nat_item, read_net_item, read_iface_item, read_iface_body, no_value, read_filter, read_router_item, read_area_item, read_any_item, read_proto, read_proto_item, read_bracket, no_prefix, read_inside, read_anys, read_named_term, read_term_of, read_signed, read_other, no_other, read_others, read_inter, read_set, read_set_in, read_side, read_prts, read_rule, read_rules, no_idle, read_group, read_protocol, read_protogroup, read_restriction, read_service, read_decl, read_decl_in}
+use Rattle.spoc_parser.specs.Reading.{read_desc, no_desc, read_desc_part, idle_of, read_list_idle, read_value_idle, read_flag_idle, read_idle, read_setting, read_at_network, read_parts, read_body, read_opening, read_host_item, read_nat_item, read_net_item, read_virt_item, read_iface_item, read_iface_body, no_value, read_filter, read_router_item, read_area_item, read_any_item, read_proto, read_proto_item, read_bracket, no_prefix, read_inside, read_anys, read_named_term, read_term_of, read_signed, read_other, no_other, read_others, read_inter, read_set, read_set_in, read_side, read_prts, read_action, read_rule, read_rules, no_idle, read_group, read_protocol, read_protogroup, read_restriction, read_service, read_decl, read_decl_in}
 use Rattle.grammar_laws.proofs.Found.{same_bytes, and_true, kind_word}
 use Rattle.grammar_laws.proofs.Spelled.{side, to_items}
 use Rattle.grammar_laws.proofs.Only.{Takes, Always, Where, Tells, then_tells, or_tells, where_tells, many_tells, perhaps_tells, listed_tells, word_at, by_key, by_sign, by_name, key_tells, sign_tells, word_tells, named_tells, port_tells, follow_takes, then_takes, last_takes, less_takes, absent_takes, or_takes, yes_takes, no_takes, same_text, sign_takes, key_takes, text_takes, word_takes, named_takes, port_takes, spread_takes, spread_or_none_takes, unless_takes, has_token, until_takes, further_takes, listed_takes, listed_open_takes}
@@ -174,10 +174,12 @@ host_item_plain (host_range words) = by_key (λ start rest. refl)
 host_item_plain (host_idle idle) = idle_tells (λ start rest. refl) idle
 
 nat_item_takes : (item : NatItem) → Takes (SpellsNatItem item) Always read_nat_item item
-nat_item_takes (nat_ip prefix) = last_takes _ (setting_takes (codes "ip") Prefix prefix) (λ toks. refl)
+nat_item_takes (nat_ip prefix) = no_takes (at_key (codes "hidden")) _ (by_key (λ start rest. refl)) (last_takes _ (setting_takes (codes "ip") Prefix prefix) (λ toks. refl))
+nat_item_takes nat_hidden = yes_takes (at_key (codes "hidden")) _ (by_key (λ start rest. refl)) (then_takes _ (key_takes (codes "hidden")) (last_takes _ (sign_takes (codes ";")) (λ toks. refl)))
 
 nat_item_plain : (item : NatItem) → Tells (SpellsNatItem item) plain true
 nat_item_plain (nat_ip prefix) = by_key (λ start rest. refl)
+nat_item_plain nat_hidden = by_key (λ start rest. refl)
 
 net_item_takes : (item : NetItem) → Takes (SpellsNetItem item) Always read_net_item item
 net_item_takes (net_ip prefix) = yes_takes (at_key (codes "ip")) _ (by_key (λ start rest. refl)) (last_takes _ (setting_takes (codes "ip") Prefix prefix) (λ toks. refl))
@@ -193,16 +195,28 @@ net_item_plain (net_idle idle) = idle_tells (λ start rest. refl) idle
 
 -- ---- routers
 
+virt_item_takes : (item : VirtItem) → Takes (SpellsVirtItem item) Always read_virt_item item
+virt_item_takes (virt_ip address) = yes_takes (at_key (codes "ip")) _ (by_key (λ start rest. refl)) (last_takes _ (setting_takes (codes "ip") Address address) (λ toks. refl))
+virt_item_takes (virt_kind word) = no_takes (at_key (codes "ip")) _ (by_key (λ start rest. refl)) (yes_takes (at_key (codes "type")) _ (by_key (λ start rest. refl)) (last_takes _ (setting_takes (codes "type") Any word) (λ toks. refl)))
+virt_item_takes (virt_id number) = no_takes (at_key (codes "ip")) _ (by_key (λ start rest. refl)) (no_takes (at_key (codes "type")) _ (by_key (λ start rest. refl)) (last_takes _ (setting_takes (codes "id") Number number) (λ toks. refl)))
+
+virt_item_plain : (item : VirtItem) → Tells (SpellsVirtItem item) plain true
+virt_item_plain (virt_ip address) = by_key (λ start rest. refl)
+virt_item_plain (virt_kind word) = by_key (λ start rest. refl)
+virt_item_plain (virt_id number) = by_key (λ start rest. refl)
+
 iface_item_takes : (item : IfaceItem) → Takes (SpellsIfaceItem item) Always read_iface_item item
 iface_item_takes (iface_ip address) = yes_takes (at_key (codes "ip")) _ (by_key (λ start rest. refl)) (last_takes _ (setting_takes (codes "ip") Address address) (λ toks. refl))
 iface_item_takes (iface_hardware word) = no_takes (at_key (codes "ip")) _ (by_key (λ start rest. refl)) (yes_takes (at_key (codes "hardware")) _ (by_key (λ start rest. refl)) (last_takes _ (setting_takes (codes "hardware") Any word) (λ toks. refl)))
 iface_item_takes (iface_bind_nat tags) = no_takes (at_key (codes "ip")) _ (by_key (λ start rest. refl)) (no_takes (at_key (codes "hardware")) _ (by_key (λ start rest. refl)) (yes_takes (at_key (codes "bind_nat")) _ (by_key (λ start rest. refl)) (then_takes _ (key_takes (codes "bind_nat")) (then_takes _ (sign_takes (codes "=")) (follow_takes _ (listed_takes (a_word Name) _ (word_takes Name) tags) (sign_tells (λ start rest. refl)) (last_takes _ (sign_takes (codes ";")) (λ toks. refl)))))))
-iface_item_takes (iface_idle idle) = no_takes (at_key (codes "ip")) _ (idle_tells (λ start rest. refl) idle) (no_takes (at_key (codes "hardware")) _ (idle_tells (λ start rest. refl) idle) (no_takes (at_key (codes "bind_nat")) _ (idle_tells (λ start rest. refl) idle) (last_takes _ (idle_takes idle) (λ toks. refl))))
+iface_item_takes (iface_virtual parts) = no_takes (at_key (codes "ip")) _ (by_key (λ start rest. refl)) (no_takes (at_key (codes "hardware")) _ (by_key (λ start rest. refl)) (no_takes (at_key (codes "bind_nat")) _ (by_key (λ start rest. refl)) (yes_takes (at_key (codes "virtual")) _ (by_key (λ start rest. refl)) (then_takes _ (key_takes (codes "virtual")) (last_takes _ (body_takes SpellsVirtItem read_virt_item virt_item_takes virt_item_plain parts) (λ toks. refl))))))
+iface_item_takes (iface_idle idle) = no_takes (at_key (codes "ip")) _ (idle_tells (λ start rest. refl) idle) (no_takes (at_key (codes "hardware")) _ (idle_tells (λ start rest. refl) idle) (no_takes (at_key (codes "bind_nat")) _ (idle_tells (λ start rest. refl) idle) (no_takes (at_key (codes "virtual")) _ (idle_tells (λ start rest. refl) idle) (last_takes _ (idle_takes idle) (λ toks. refl)))))
 
 iface_item_plain : (item : IfaceItem) → Tells (SpellsIfaceItem item) plain true
 iface_item_plain (iface_ip address) = by_key (λ start rest. refl)
 iface_item_plain (iface_hardware word) = by_key (λ start rest. refl)
 iface_item_plain (iface_bind_nat tags) = by_key (λ start rest. refl)
+iface_item_plain (iface_virtual parts) = by_key (λ start rest. refl)
 iface_item_plain (iface_idle idle) = idle_tells (λ start rest. refl) idle
 
 -- `;` alone
@@ -399,19 +413,27 @@ set_in_takes user_stands (suc depth) area_stands =
 
 -- ---- rules
 
+action_takes : (deny : Bool) → Takes (key (action deny)) Always read_action deny
+action_takes true = record { takes = λ front rest p f. ap (λ l. read_action (l ++ rest)) p.1 }
+action_takes false = record { takes = λ front rest p f. ap (λ l. read_action (l ++ rest)) p.1 }
+
+action_plain : (deny : Bool) {P : Phrase} → Tells (key (action deny) then P) plain true
+action_plain true = by_key (λ start rest. refl)
+action_plain false = by_key (λ start rest. refl)
+
 module _ {S : Type 0} (spells : S → Phrase) (read : Reader S) (reads : (set : S) → Takes (spells set) (Where list_ends true) read set) where
   side_takes : (name : List ℕ) (set : S) → Takes (side name spells set) Always (read_side name read) set
   side_takes name set = then_takes _ (key_takes name) (then_takes _ (sign_takes (codes "=")) (follow_takes _ (reads set) (sign_tells (λ start rest. refl)) (last_takes _ (sign_takes (codes ";")) (λ toks. refl))))
 
   rule_takes : (rule : RuleOf S) → Takes (SpellsRule spells rule) Always (read_rule read) rule
-  rule_takes rule = then_takes _ (key_takes (codes "permit"))
+  rule_takes rule = then_takes _ (action_takes rule.deny)
       (less_takes (then_takes _ (side_takes (codes "src") rule.src)
       (less_takes (then_takes _ (side_takes (codes "dst") rule.dst) (then_takes _ (key_takes (codes "prt")) (last_takes _ (prts_takes rule.prts) (λ toks. refl)))) (ungroup_4 _ _ _ _ _) (λ rest f. f)))
       (ungroup_4 _ _ _ _ _) (λ rest f. f))
 
   rules_takes : (rules : List (RuleOf S)) → Takes (some (SpellsRule spells) rules then sign (codes "}")) Always (read_rules read) rules
   rules_takes [] = absent_takes (λ front p. p.2)
-  rules_takes (rule ∷ rules) = no_takes (at_sign (codes "}")) _ (then_tells (then_tells (by_key (λ start rest. refl)))) (parts_takes (SpellsRule spells) (read_rule read) rule_takes (λ r. by_key (λ start rest. refl)) (rule ∷ rules))
+  rules_takes (rule ∷ rules) = no_takes (at_sign (codes "}")) _ (then_tells (then_tells (by_key (λ start rest. refl)))) (parts_takes (SpellsRule spells) (read_rule read) rule_takes (λ r. action_plain r.deny) (rule ∷ rules))
 
 -- ---- declarations
 

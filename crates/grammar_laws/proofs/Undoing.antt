@@ -87,14 +87,14 @@ set_undoes (suc depth) =
     each_undoes (inter_with (term_with (raised depth))) (inter_back (term_back (set_back depth)))
     (inter_undoes (term_with (raised depth)) (term_back (set_back depth)) (term_undoes (raised depth) (set_back depth) (set_undoes depth)))
 
-abbrev rule_of : {S : Type 0} → List ProtoItem → S → S → RuleOf S
-rule_of prts src dst = record { src = src; dst = dst; prts = prts }
+abbrev rule_of : {S : Type 0} → Bool → List ProtoItem → S → S → RuleOf S
+rule_of deny prts src dst = record { deny = deny; src = src; dst = dst; prts = prts }
 
 abbrev rule_back : {S T : Type 0} → (T → Option S) → RuleOf T → Option (RuleOf S)
-rule_back g rule = both (rule_of rule.prts) (g rule.src) (g rule.dst)
+rule_back g rule = both (rule_of rule.deny rule.prts) (g rule.src) (g rule.dst)
 
 rule_undoes : {S T : Type 0} (f : S → T) (g : T → Option S) → Undoes f g → Undoes (rule_with f) (rule_back g)
-rule_undoes f g undoes rule = λ i. both (rule_of rule.prts) (undoes rule.src i) (undoes rule.dst i)
+rule_undoes f g undoes rule = λ i. both (rule_of rule.deny rule.prts) (undoes rule.src i) (undoes rule.dst i)
 
 abbrev decl_back : {S T : Type 0} → (T → Option S) → DeclOf T → Option (DeclOf S)
 decl_back g (network_decl name desc parts) = Some (network_decl name desc parts)

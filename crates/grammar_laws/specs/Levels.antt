@@ -49,7 +49,7 @@ raised (suc depth) = set_with (term_with (raised depth))
 
 -- the same rule, with its sets changed
 abbrev pub rule_with : {S T : Type 0} → (S → T) → RuleOf S → RuleOf T
-rule_with f rule = record { src = f rule.src; dst = f rule.dst; prts = rule.prts }
+rule_with f rule = record { deny = rule.deny; src = f rule.src; dst = f rule.dst; prts = rule.prts }
 
 -- the same declaration, with its sets changed
 abbrev pub decl_with : {S T : Type 0} → (S → T) → DeclOf S → DeclOf T

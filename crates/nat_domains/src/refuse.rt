@@ -69,13 +69,13 @@ fn told_inside(topo: Topo<'_>, graph: &ZoneGraph, n: NetId, tag: TagId) -> Fault
     }
 }
 
-fn has_nat(nats: &[(TagId, Prefix)], tag: TagId) -> bool
+fn has_nat(nats: &[(TagId, Option<Prefix>)], tag: TagId) -> bool
     ensures { result ≡ list_any (λ nat. nat.0.0 == tag.0) nats.now }
 {
     nats.iter().any(|nat| nat.0.0 == tag.0)
 }
 
-// Whether a tag translates a network.
+// Whether a tag translates or hides a network.
 fn translates(topo: Topo<'_>, n: NetId, tag: TagId) -> bool
     requires { n.0 < length (policy_of topo).nets }
     ensures { result ≡ has_tag (policy_of topo.entry) n.0 tag.0 }

@@ -2,7 +2,7 @@
 use Rattle.std.proofs.Common.{◌≡◌, ℕ, ◌+◌, ◌<◌, Bool, true, false, cond, List, [], ◌∷◌, length, drop, map, sym, ap, subst, ◌∙◌, get_or}
 use Rattle.std.specs.Prelude.{Option, Some, None, option_map, find, IsTrue}
 use Rattle.std.specs.List.{list_all}
-use Rattle.std.proofs.lemmas.Bool.{and_parts, eqb-true}
+use Rattle.std.proofs.lemmas.Bool.{and_parts}
 use Rattle.std.proofs.lemmas.List.{at_drop_more}
 use Rattle.spoc_base.specs.Address.{Cidr}
 use Rattle.policy_model.specs.Lists.{has}
@@ -35,9 +35,8 @@ pub find_here : {A B : Type 0} (test : B → Bool) (f : A → B) (xs : List A) (
 find_here test f xs i x below is found =
     at_drop_more (λ ys. find test (map f ys)) xs i x below ∙ (ap (λ y. cond (test (f y)) (Some (f y)) (find test (map f (drop (i + 1) xs)))) (sym is) ∙ ap (λ b. cond b (Some (f x)) (find test (map f (drop (i + 1) xs)))) found)
 
--- a translation has the length of the own prefix
-pub kept_length : (p : Policy) (n : ℕ) (tags : List ℕ) (q : Cidr) → IsTrue (list_all (λ nat. keeps_length (net_of p n).own nat.1) (net_of p n).nats) → (nats : List (ℕ × Option Cidr)) → (net_of p n).nats ≡ nats →
-    ◌≡◌ {A = Option (Option Cidr)} (Some (Some q)) (option_map (λ nat. nat.1) (find (λ nat. has tags nat.0) nats)) → q.len ≡ (net_of p n).own.len
-kept_length p n tags q all nats e found =
-    eqb-true q.len (net_of p n).own.len
-    (find_keeps (keeps_length (net_of p n).own) (λ nat. has tags nat.0) nats (subst (λ ns. list_all (λ nat. keeps_length (net_of p n).own nat.1) ns ≡ true) e all) (Some q) (sym found))
+-- a translation has the length of the own prefix, unless it hides
+pub kept_length : (p : Policy) (n : ℕ) (tags : List ℕ) (o : Option Cidr) → IsTrue (list_all (λ nat. keeps_length (net_of p n).own nat.1) (net_of p n).nats) → (nats : List (ℕ × Option Cidr)) → (net_of p n).nats ≡ nats →
+    ◌≡◌ {A = Option (Option Cidr)} (Some o) (option_map (λ nat. nat.1) (find (λ nat. has tags nat.0) nats)) → IsTrue (keeps_length (net_of p n).own o)
+kept_length p n tags o all nats e found =
+    find_keeps (keeps_length (net_of p n).own) (λ nat. has tags nat.0) nats (subst (λ ns. list_all (λ nat. keeps_length (net_of p n).own nat.1) ns ≡ true) e all) o (sym found)

@@ -1,88 +1,128 @@
 -- A table of prefixes as the items of a tree.
-use Rattle.std.proofs.Common.{◌≡◌, ℕ, ◌+◌, ◌<◌, ◌≤◌, true, List, [], ◌∷◌, ◌++◌, length, map, sym, ap, subst, ◌∙◌, ⊎_elim, get_or, arith}
-use Rattle.std.specs.Prelude.{Some, nat_le, ◌&&◌, slice_index_or}
-use Rattle.std.specs.List.{Contains}
+use Rattle.std.proofs.Common.{◌≡◌, ℕ, ◌+◌, ◌<◌, ◌≤◌, inl, inr, Bool, true, false, cond, List, [], ◌∷◌, ◌++◌, length, map, refl, sym, ap, subst, ◌∙◌, ⊎_elim, arith}
+use Rattle.std.specs.Prelude.{Option, Some, None, is_some, unwrap_or, nat_le, ◌&&◌, filter, IsTrue}
+use Rattle.std.specs.List.{Contains, AllPairs}
 use Rattle.std.proofs.lemmas.Bool.{and_parts, and_from, cases_lt, ltb-true, lt-ltb, le-leb, leb-true}
-use Rattle.std.proofs.lemmas.List.{get_or-map, length_push, get_or_push, get_or_append_left, map_push}
-use Rattle.std.proofs.lemmas.List.FromFn.{length-map-range_with_len, get_or-map-range_with_len, map-range_with_len_more}
+use Rattle.std.proofs.lemmas.List.{get_or-map, length-map, length_push, get_or_push, get_or_append_left}
+use Rattle.std.proofs.lemmas.List.Kept.{AllPairs-filter}
+use Rattle.std.proofs.lemmas.List.FromFn.{length-range_with_len, get_or-range_with_len, filter_of_map_range_with_len_more}
 use Rattle.spoc_base.specs.Address.{Cidr, same_prefix, any_address}
-use Rattle.spoc_base.specs.Shown.{cidr_of}
-use Rattle.spoc_base.specs.declared.address.Prefix.{Prefix}
-use Rattle.spoc_base.specs.declared.ids.NetId.{NetId}
 use Rattle.policy_model.specs.Lists.{numbers_below}
 use Rattle.policy_model.specs.Policy.{Policy, net_of}
 use Rattle.policy_model.specs.Places.{prefix_in}
 use Rattle.policy_model.specs.Faults.{are_one_prefix, is_same_prefix}
+use Rattle.policy_model.proofs.AllWalks.{IsIn, in_map, in_filter, in_numbers}
+use Rattle.list_laws.proofs.Members.{from_filter}
+use Rattle.list_laws.proofs.Tables.{from_range}
+use Rattle.topology.specs.Sound.{keeps_length}
 use Rattle.subnet_tree.specs.Entries.{Entry, HaveDistinctNumbers, HaveDistinctPrefixes, IsLeastSame}
 use Rattle.subnet_tree.specs.Refusals.{Refuses}
-use Rattle.subnet_tree.specs.Shown.{entry_of}
 use Rattle.subnet_tree.specs.declared.fail.TreeFail.{TreeFail}
 use Rattle.subnet_tree.specs.declared.fail.TreeFail.TheVariants.{Same, Memory}
+use Rattle.subnet_tree.proofs.Longest.{contains_in, in_contains}
 use Rattle.nat_view.specs.Seen.{AreLeastSame, AreApartIn}
-use Rattle.nat_view.specs.Tables.{prefix_at, entries_of, ArePrefixes, ArePrefixesBelow, IsTable}
+use Rattle.nat_view.specs.Tables.{prefix_at, has_prefix, item_at, entry_if, entries_below, entries_of, ArePrefixes, ArePrefixesBelow, IsTable}
 use Rattle.nat_view.specs.Shown.{RefusesTable}
 
 -- ---- making
 
-abbrev pub item_at : List Cidr → ℕ → Entry
-item_at seen n = record { net = n; prefix = prefix_at seen n }
+map_same : (xs : List ℕ) → map (λ n. n) xs ≡ xs
+map_same [] = refl
+map_same (x ∷ xs) = ap (λ ys. x ∷ ys) (map_same xs)
 
-pub one_item_more : (seen : List Prefix) (items : List (NetId × Prefix)) (n : ℕ) (id : NetId) (x : Prefix) → id.0 ≡ n → n < length seen → x ≡ get_or seen n x → map entry_of items ≡ map (item_at (map cidr_of seen)) (numbers_below n) →
-    map entry_of (items ++ (id, x) ∷ []) ≡ map (item_at (map cidr_of seen)) (numbers_below (n + 1))
-one_item_more seen items n id x e below is so_far =
-    let f = item_at (map cidr_of seen) in
-    let at : prefix_at (map cidr_of seen) n ≡ cidr_of x = get_or-map cidr_of seen n x any_address below ∙ ap cidr_of (sym is) in
-    let same : entry_of (id, x) ≡ f n = ap (λ k. let r : Entry = record { net = k; prefix = cidr_of x } in r) e ∙ ap (λ q. let r : Entry = record { net = n; prefix = q } in r) (sym at) in
-    map_push entry_of items (id, x) ∙ (ap (λ es. es ++ entry_of (id, x) ∷ []) so_far ∙ (ap (λ y. map f (numbers_below n) ++ y ∷ []) same ∙ sym (map-range_with_len_more f 0 n n (omega arith))))
+kept_more : (test : ℕ → Bool) (n : ℕ) → filter test (numbers_below (n + 1)) ≡ filter test (numbers_below n) ++ cond (test n) (n ∷ []) []
+kept_more test n =
+    ap (filter test) (sym (map_same (numbers_below (n + 1))))
+    ∙ (filter_of_map_range_with_len_more test (λ k. k) 0 n n (omega arith) ∙ ap (λ xs. filter test xs ++ cond (test n) (n ∷ []) []) (map_same (numbers_below n)))
 
-pub one_prefix_more : (p : Policy) (tags : List ℕ) (seen : List Cidr) (q : Cidr) (n : ℕ) → ArePrefixesBelow p tags seen n → prefix_in p tags n ≡ Some q → q.len ≡ (net_of p n).own.len → ArePrefixesBelow p tags (seen ++ q ∷ []) (n + 1)
-one_prefix_more p tags seen q n so_far is len =
+map_more : {A B : Type 0} (f : A → B) (xs ys : List A) → map f (xs ++ ys) ≡ map f xs ++ map f ys
+map_more f [] ys = refl
+map_more f (x ∷ xs) ys = ap (λ zs. f x ∷ zs) (map_more f xs ys)
+
+one_entry : (n : ℕ) (o : Option Cidr) → map (λ k. let e : Entry = record { net = k; prefix = unwrap_or o any_address } in e) (cond (is_some o) (n ∷ []) []) ≡ entry_if n o
+one_entry n None = refl
+one_entry n (Some q) = refl
+
+map_at : (f g : ℕ → Entry) (b : Bool) (n : ℕ) → f n ≡ g n → map f (cond b (n ∷ []) []) ≡ map g (cond b (n ∷ []) [])
+map_at f g true n e = ap (λ y. y ∷ []) e
+map_at f g false n e = refl
+
+pub one_item_more : (seen : List (Option Cidr)) (n : ℕ) → entries_below seen (n + 1) ≡ entries_below seen n ++ entry_if n (prefix_at seen n)
+one_item_more seen n =
+    let kept = filter (has_prefix seen) (numbers_below n) in
+    let o = prefix_at seen n in
+    let g = λ (k : ℕ). let e : Entry = record { net = k; prefix = unwrap_or o any_address } in e in
+    ap (map (item_at seen)) (kept_more (has_prefix seen) n)
+    ∙ (map_more (item_at seen) kept (cond (is_some o) (n ∷ []) [])
+    ∙ ap (λ es. map (item_at seen) kept ++ es) (map_at (item_at seen) g (is_some o) n refl ∙ one_entry n o))
+
+pub one_prefix_more : (p : Policy) (tags : List ℕ) (seen : List (Option Cidr)) (o : Option Cidr) (n : ℕ) → ArePrefixesBelow p tags seen n → prefix_in p tags n ≡ o → IsTrue (keeps_length (net_of p n).own o) → ArePrefixesBelow p tags (seen ++ o ∷ []) (n + 1)
+one_prefix_more p tags seen o n so_far is len =
     let each = so_far.each in
-    let old : (k : ℕ) → k < n → prefix_at (seen ++ q ∷ []) k ≡ prefix_at seen k = λ k h. get_or_append_left seen (q ∷ []) any_address k (omega (arith, h, each)) in
-    let new : prefix_at (seen ++ q ∷ []) n ≡ q = get_or_push seen q any_address n each in
+    let old : (k : ℕ) → k < n → prefix_at (seen ++ o ∷ []) k ≡ prefix_at seen k = λ k h. get_or_append_left seen (o ∷ []) None k (omega (arith, h, each)) in
+    let new : prefix_at (seen ++ o ∷ []) n ≡ o = get_or_push seen o None n each in
     record {
-      each = length_push seen q ∙ ap (λ k. k + 1) each;
+      each = length_push seen o ∙ ap (λ k. k + 1) each;
       are = λ k h. ⊎_elim
-          (λ (lt : k < n). so_far.are k lt ∙ ap (λ c. Some c) (sym (old k lt)))
-          (λ (le : n ≤ k). let e : k ≡ n = omega (arith, h, le) in ap (prefix_in p tags) e ∙ (is ∙ ap (λ c. Some c) (sym (ap (prefix_at (seen ++ q ∷ [])) e ∙ new))))
+          (λ (lt : k < n). so_far.are k lt ∙ sym (old k lt))
+          (λ (le : n ≤ k). let e : k ≡ n = omega (arith, h, le) in ap (prefix_in p tags) e ∙ (is ∙ sym (ap (prefix_at (seen ++ o ∷ [])) e ∙ new)))
           (cases_lt k n);
       lengths = λ k h. ⊎_elim
-          (λ (lt : k < n). ap (λ c. c.len) (old k lt) ∙ so_far.lengths k lt)
-          (λ (le : n ≤ k). let e : k ≡ n = omega (arith, h, le) in ap (λ (c : Cidr). c.len) (ap (prefix_at (seen ++ q ∷ [])) e ∙ new) ∙ (len ∙ ap (λ j. (net_of p j).own.len) (sym e)))
+          (λ (lt : k < n). subst (λ x. IsTrue (keeps_length (net_of p k).own x)) (sym (old k lt)) (so_far.lengths k lt))
+          (λ (le : n ≤ k). let e : k ≡ n = omega (arith, h, le) in
+          subst (λ x. IsTrue (keeps_length (net_of p k).own x)) (sym (ap (prefix_at (seen ++ o ∷ [])) e ∙ new)) (subst (λ j. IsTrue (keeps_length (net_of p j).own o)) (sym e) len))
           (cases_lt k n);
     }
 
 -- ---- the items
 
-pub item_is : (seen : List Cidr) (n : ℕ) (d : Entry) → n < length seen → slice_index_or (entries_of seen) n d ≡ item_at seen n
-item_is seen n d below = get_or-map-range_with_len (item_at seen) 0 (length seen) n n d below (omega arith)
+some_is : {A : Type 0} (x y : A) → ◌≡◌ {A = Option A} (Some x) (Some y) → x ≡ y
+some_is x y e = cc
 
-pub items_count : (seen : List Cidr) → length (entries_of seen) ≡ length seen
-items_count seen = length-map-range_with_len (item_at seen) 0 (length seen)
+its_prefix : (o : Option Cidr) → is_some o ≡ true → o ≡ Some (unwrap_or o any_address)
+its_prefix None e = absurd (let z : ⊥ = cc in z)
+its_prefix (Some q) e = refl
 
-pub item_there : (seen : List Cidr) (n : ℕ) → n < length seen → Contains (entries_of seen) (item_at seen n)
-item_there seen n below = let c = items_count seen in (n, omega (arith, below, c), item_is seen n (item_at seen n) below)
+pub item_there : (seen : List (Option Cidr)) (n : ℕ) (q : Cidr) → n < length seen → prefix_at seen n ≡ Some q → Contains (entries_of seen) (record { net = n; prefix = q })
+item_there seen n q below is =
+    let there = in_filter (has_prefix seen) n (numbers_below (length seen)) (in_numbers (length seen) n below) (ap is_some is) in
+    let same : ◌≡◌ {A = Entry} (item_at seen n) (record { net = n; prefix = q }) = ap (λ o. let e : Entry = record { net = n; prefix = unwrap_or o any_address } in e) is in
+    in_contains (entries_of seen) (record { net = n; prefix = q }) (subst (λ e. IsIn e (entries_of seen)) same (in_map (item_at seen) n (filter (has_prefix seen) (numbers_below (length seen))) there))
 
-pub record IsItem (seen : List Cidr) (e : Entry) : Type 0 where
+pub record IsItem (seen : List (Option Cidr)) (e : Entry) : Type 0 where
   pub below : e.net < length seen
-  pub is : e.prefix ≡ prefix_at seen e.net
+  pub is : prefix_at seen e.net ≡ Some e.prefix
 
-pub item_of : (seen : List Cidr) (e : Entry) → Contains (entries_of seen) e → IsItem seen e
+from_map : (f : ℕ → Entry) (e : Entry) (xs : List ℕ) → IsIn e (map f xs) → (n : ℕ) × IsIn n xs × (e ≡ f n)
+from_map f e [] h = absurd h
+from_map f e (x ∷ xs) (inl h) = (x, inl refl, h)
+from_map f e (x ∷ xs) (inr h) = let w = from_map f e xs h in (w.0, inr w.1, w.2)
+
+pub item_of : (seen : List (Option Cidr)) (e : Entry) → Contains (entries_of seen) e → IsItem seen e
 item_of seen e c =
-    let n = items_count seen in
-    let b = c.1 in
-    let below : c.0 < length seen = omega (arith, b, n) in
-    let same : item_at seen c.0 ≡ e = sym (item_is seen c.0 e below) ∙ c.2 in
-    let net : c.0 ≡ e.net = ap (λ x. x.net) same in
-    record { below = omega (arith, below, net); is = sym (ap (λ (x : Entry). x.prefix) same) ∙ ap (prefix_at seen) net }
+    let w = from_map (item_at seen) e (filter (has_prefix seen) (numbers_below (length seen))) (contains_in (entries_of seen) e c) in
+    let k = from_filter (has_prefix seen) w.0 (numbers_below (length seen)) w.1 in
+    let low = from_range 0 (length seen) w.0 k.0 in
+    subst (IsItem seen) (sym w.2) (record { below = omega (arith, low); is = its_prefix (prefix_at seen w.0) k.1 })
 
-pub items_are_distinct : (seen : List Cidr) → HaveDistinctNumbers (entries_of seen)
+numbers_ascend : (n : ℕ) → AllPairs (λ a b. a < b) (numbers_below n)
+numbers_ascend n = λ i j d lt below.
+    let c = length-range_with_len 0 n in
+    let jb : j < n = omega (arith, below, c) in
+    let a = get_or-range_with_len 0 n i d (omega (arith, lt, jb)) in
+    let b = get_or-range_with_len 0 n j d jb in
+    omega (arith, lt, a, b)
+
+pub items_are_distinct : (seen : List (Option Cidr)) → HaveDistinctNumbers (entries_of seen)
 items_are_distinct seen = λ i j d lt below e.
-    let n = items_count seen in
-    let jb : j < length seen = omega (arith, below, n) in
-    let ib : i < length seen = omega (arith, lt, jb) in
-    let same : i ≡ j = sym (ap (λ x. x.net) (item_is seen i d ib)) ∙ (e ∙ ap (λ x. x.net) (item_is seen j d jb)) in
-    let z : ⊥ = omega (arith, lt, same) in z
+    let kept = filter (has_prefix seen) (numbers_below (length seen)) in
+    let c = length-map kept (item_at seen) in
+    let jb : j < length kept = omega (arith, below, c) in
+    let ib : i < length kept = omega (arith, lt, jb) in
+    let order = AllPairs-filter (λ a b. a < b) (has_prefix seen) (numbers_below (length seen)) (numbers_ascend (length seen)) i j 0 lt jb in
+    let a = ap (λ (x : Entry). x.net) (get_or-map (item_at seen) kept i 0 d ib) in
+    let b = ap (λ (x : Entry). x.net) (get_or-map (item_at seen) kept j 0 d jb) in
+    let z : ⊥ = omega (arith, order, a, b, e) in z
 
 -- ---- equal prefixes
 
@@ -109,7 +149,22 @@ one_is_same p =
     let len : nat_le p.len p.len ≡ true = le-leb p.len p.len (omega arith) in
     and_from _ _ (and_from _ _ (and_from _ _ net net) len) len
 
-module _ (p : Policy) (tags : List ℕ) (seen : List Cidr) (prefixes : ArePrefixes p tags seen) where
+two_are_one : (a b : Option Cidr) → are_one_prefix a b ≡ true → (q : Cidr) × (a ≡ Some q) × (b ≡ Some q)
+two_are_one (Some q) (Some r) e = (q, refl, ap (λ x. Some x) (sym (cidr_same q r e)))
+two_are_one (Some q) None e = absurd (let z : ⊥ = cc in z)
+two_are_one None b e = absurd (let z : ⊥ = cc in z)
+
+one_is_one : (a b : Option Cidr) (q : Cidr) → a ≡ Some q → b ≡ Some q → are_one_prefix a b ≡ true
+one_is_one a b q e f = ap (λ x. are_one_prefix x b) e ∙ (ap (are_one_prefix (Some q)) f ∙ one_is_same q)
+
+-- two networks have this prefix, the first below the second
+pub record ShareOne (seen : List (Option Cidr)) (n m : ℕ) : Type 0 where
+  pub order : n < m
+  pub prefix : Cidr
+  pub first : prefix_at seen n ≡ Some prefix
+  pub second : prefix_at seen m ≡ Some prefix
+
+module _ (p : Policy) (tags : List ℕ) (seen : List (Option Cidr)) (prefixes : ArePrefixes p tags seen) where
   below_count : (n : ℕ) → n < length p.nets → n < length seen
   below_count n h = let e = prefixes.each in omega (arith, h, e)
 
@@ -117,18 +172,18 @@ module _ (p : Policy) (tags : List ℕ) (seen : List Cidr) (prefixes : ArePrefix
   below_nets n h = let e = prefixes.each in omega (arith, h, e)
 
   -- the test of the fault, on the table
-  pub tested : (n m : ℕ) → n < m → m < length p.nets → is_same_prefix p tags n m ≡ same_prefix (prefix_at seen n) (prefix_at seen m)
-  tested n m lt below =
-      ap (λ b. b && are_one_prefix (prefix_in p tags n) (prefix_in p tags m)) (lt-ltb n m lt)
-      ∙ (ap (λ o. are_one_prefix o (prefix_in p tags m)) (prefixes.are n (omega (arith, lt, below))) ∙ ap (λ o. are_one_prefix (Some (prefix_at seen n)) o) (prefixes.are m below))
-
-  pub same_means : (n m : ℕ) → m < length p.nets → is_same_prefix p tags n m ≡ true → (n < m) × (prefix_at seen n ≡ prefix_at seen m)
+  pub same_means : (n m : ℕ) → m < length p.nets → is_same_prefix p tags n m ≡ true → ShareOne seen n m
   same_means n m below h =
-      let lt = ltb-true n m (and_parts _ _ h).0 in
-      (lt, cidr_same (prefix_at seen n) (prefix_at seen m) (sym (tested n m lt below) ∙ h))
+      let w = and_parts _ _ h in
+      let lt = ltb-true n m w.0 in
+      let one = two_are_one (prefix_in p tags n) (prefix_in p tags m) w.1 in
+      record { order = lt; prefix = one.0; first = sym (prefixes.are n (omega (arith, lt, below))) ∙ one.1; second = sym (prefixes.are m below) ∙ one.2 }
 
-  pub same_from : (n m : ℕ) → n < m → m < length p.nets → prefix_at seen n ≡ prefix_at seen m → is_same_prefix p tags n m ≡ true
-  same_from n m lt below e = tested n m lt below ∙ (ap (same_prefix (prefix_at seen n)) (sym e) ∙ one_is_same (prefix_at seen n))
+  pub same_from : (n m : ℕ) → m < length p.nets → ShareOne seen n m → is_same_prefix p tags n m ≡ true
+  same_from n m below one =
+      let lt = one.order in
+      and_from _ _ (lt-ltb n m lt)
+      (one_is_one (prefix_in p tags n) (prefix_in p tags m) one.prefix (prefixes.are n (omega (arith, lt, below)) ∙ one.first) (prefixes.are m below ∙ one.second))
 
   pub least_same : (n m : ℕ) → IsLeastSame (entries_of seen) n m → AreLeastSame p tags n m
   least_same n m h =
@@ -137,24 +192,27 @@ module _ (p : Policy) (tags : List ℕ) (seen : List Cidr) (prefixes : ArePrefix
       let fn = h.first_number in
       let sn = h.second_number in
       let below : m < length p.nets = below_nets m (subst (λ k. k < length seen) sn b.below) in
-      let e : prefix_at seen n ≡ prefix_at seen m = ap (prefix_at seen) (sym fn) ∙ (sym a.is ∙ (h.same ∙ (b.is ∙ ap (prefix_at seen) sn))) in
+      let first : prefix_at seen n ≡ Some h.first.prefix = ap (prefix_at seen) (sym fn) ∙ a.is in
+      let second : prefix_at seen m ≡ Some h.first.prefix = ap (prefix_at seen) (sym sn) ∙ (b.is ∙ ap (λ x. Some x) (sym h.same)) in
       record {
         there = below;
-        same = same_from n m h.ascending below e;
+        same = same_from n m below (record { order = h.ascending; prefix = h.first.prefix; first = first; second = second });
         least = λ k l lb s.
             let w = same_means k l lb s in
-            h.least (item_at seen k) (item_at seen l) (item_there seen k (below_count k (let x = w.0 in omega (arith, x, lb)))) (item_there seen l (below_count l lb)) w.0 w.1;
+            let lt = w.order in
+            h.least (record { net = k; prefix = w.prefix }) (record { net = l; prefix = w.prefix })
+            (item_there seen k w.prefix (below_count k (omega (arith, lt, lb))) w.first) (item_there seen l w.prefix (below_count l lb) w.second) lt refl;
       }
 
   pub refused : (items : List Entry) (fail : TreeFail) → items ≡ entries_of seen → Refuses items fail → RefusesTable p tags fail
   refused items (Same n m) e h = least_same n.0 m.0 (subst (λ es. IsLeastSame es n.0 m.0) e h)
   refused items Memory e h = tt
 
-pub apart_in : (p : Policy) (tags : List ℕ) (seen : List Cidr) (items : List Entry) → IsTable p tags seen items → AreApartIn p tags
+pub apart_in : (p : Policy) (tags : List ℕ) (seen : List (Option Cidr)) (items : List Entry) → IsTable p tags seen items → AreApartIn p tags
 apart_in p tags seen items t = λ n m below s.
     let w = same_means p tags seen t.prefixes n m below s in
     let apart = subst HaveDistinctPrefixes t.items_are t.apart in
-    let lt = w.0 in
+    let lt = w.order in
     let nb = below_count p tags seen t.prefixes n (omega (arith, lt, below)) in
-    let same : n ≡ m = apart (item_at seen n) (item_at seen m) (item_there seen n nb) (item_there seen m (below_count p tags seen t.prefixes m below)) w.1 in
+    let same : n ≡ m = apart (record { net = n; prefix = w.prefix }) (record { net = m; prefix = w.prefix }) (item_there seen n w.prefix nb w.first) (item_there seen m w.prefix (below_count p tags seen t.prefixes m below) w.second) refl in
     let z : ⊥ = omega (arith, lt, same) in z

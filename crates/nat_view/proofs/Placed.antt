@@ -1,11 +1,11 @@
 -- A tree of the prefixes answers as the view does.
 use Rattle.std.proofs.Common.{◌≡◌, ℕ, zero, suc, ◌+◌, ◌<◌, inl, inr, Bool, true, false, cond, List, [], ◌∷◌, length, map, refl, sym, ap, ◌∙◌, arith}
-use Rattle.std.specs.Prelude.{Option, Some, None, nat_lt, filter, option_map}
+use Rattle.std.specs.Prelude.{Option, Some, None, nat_lt, ◌&&◌, filter, option_map, is_some, unwrap_or}
 use Rattle.std.specs.List.{fold, range_with_len}
 use Rattle.std.specs.Option.{option_map_or}
 use Rattle.std.proofs.lemmas.Bool.{le-ltb}
-use Rattle.spoc_base.specs.Address.{Cidr, prefix_holds, is_inside}
-use Rattle.policy_model.specs.Lists.{numbers_below, sorted_by, with_inserted}
+use Rattle.spoc_base.specs.Address.{Cidr, prefix_holds, is_inside, any_address}
+use Rattle.policy_model.specs.Lists.{sorted_by, with_inserted}
 use Rattle.policy_model.specs.Policy.{Policy, all_nets}
 use Rattle.policy_model.specs.Places.{prefix_in, longest_by, holds_in, length_in, place}
 use Rattle.policy_model.specs.Blocks.{is_part_of}
@@ -15,8 +15,7 @@ use Rattle.list_laws.proofs.Tables.{from_range}
 use Rattle.list_laws.proofs.TableOrder.{from_range_low}
 use Rattle.subnet_tree.specs.Entries.{Entry, longest, place_in, nets_inside}
 use Rattle.nat_view.specs.Seen.{nets_within}
-use Rattle.nat_view.specs.Tables.{prefix_at, entries_of, IsTable, ArePrefixes}
-use Rattle.nat_view.proofs.Items.{item_at}
+use Rattle.nat_view.specs.Tables.{prefix_at, has_prefix, item_at, entries_below, entries_of, IsTable, ArePrefixes}
 
 -- ---- lists that are seen through a function
 
@@ -59,13 +58,35 @@ longest_same : {A : Type 0} (f g : A → ℕ) (xs : List A) → ((x : A) → IsI
 longest_same f g [] same = refl
 longest_same f g (x ∷ xs) same = ap (λ y. Some y) (best_same f g x xs (same x (inl refl)) (λ y h. same y (inr h)))
 
-option_map_twice : (seen : List Cidr) (o : Option ℕ) → option_map (λ (e : Entry). e.net) (option_map (item_at seen) o) ≡ o
+option_map_twice : (seen : List (Option Cidr)) (o : Option ℕ) → option_map (λ (e : Entry). e.net) (option_map (item_at seen) o) ≡ o
 option_map_twice seen None = refl
 option_map_twice seen (Some n) = refl
 
-map_twice : (seen : List Cidr) (xs : List ℕ) → map (λ (e : Entry). e.net) (map (item_at seen) xs) ≡ xs
+map_twice : (seen : List (Option Cidr)) (xs : List ℕ) → map (λ (e : Entry). e.net) (map (item_at seen) xs) ≡ xs
 map_twice seen [] = refl
 map_twice seen (x ∷ xs) = ap (λ ys. x ∷ ys) (map_twice seen xs)
+
+filter_twice : (p q : ℕ → Bool) (xs : List ℕ) → filter p (filter q xs) ≡ filter (λ x. q x && p x) xs
+filter_twice p q [] = refl
+filter_twice p q (x ∷ xs) = at (q x) (filter_twice p q xs)
+  where
+    at : (b : Bool) → filter p (filter q xs) ≡ filter (λ y. q y && p y) xs → filter p (cond b (x ∷ filter q xs) (filter q xs)) ≡ cond (b && p x) (x ∷ filter (λ y. q y && p y) xs) (filter (λ y. q y && p y) xs)
+    at true ih = ap (λ ys. cond (p x) (x ∷ ys) ys) ih
+    at false ih = ih
+
+-- ---- a prefix that may not be there
+
+holds_if : (o : Option Cidr) (a : ℕ) → (is_some o && prefix_holds (unwrap_or o any_address) a) ≡ option_map_or (λ q. prefix_holds q a) o false
+holds_if None a = refl
+holds_if (Some q) a = refl
+
+length_if : (o : Option Cidr) → (unwrap_or o any_address).len ≡ option_map_or (λ (q : Cidr). q.len) o 0
+length_if None = refl
+length_if (Some q) = refl
+
+inside_if : (o : Option Cidr) (outer : Cidr) → (is_some o && is_inside (unwrap_or o any_address) outer) ≡ is_part_of o (Some outer)
+inside_if None outer = refl
+inside_if (Some q) outer = refl
 
 -- ---- sorted already
 
@@ -84,41 +105,44 @@ in_order test a (suc n) = at (test a) (in_order test (a + 1) n) (λ y h. let w =
 
 -- ---- the answers
 
-module _ (p : Policy) (tags : List ℕ) (seen : List Cidr) (prefixes : ArePrefixes p tags seen) where
+module _ (p : Policy) (tags : List ℕ) (seen : List (Option Cidr)) (prefixes : ArePrefixes p tags seen) where
   below : (n : ℕ) → IsIn n (all_nets p) → n < length p.nets
   below n h = let b = from_range 0 (length p.nets) n h in omega (arith, b)
 
-  entries_are : entries_of seen ≡ map (item_at seen) (all_nets p)
-  entries_are = ap (λ n. map (item_at seen) (numbers_below n)) prefixes.each
+  entries_are : entries_of seen ≡ entries_below seen (length p.nets)
+  entries_are = ap (entries_below seen) prefixes.each
 
-  holds_same : (a n : ℕ) → IsIn n (all_nets p) → prefix_holds (prefix_at seen n) a ≡ holds_in p tags n a
-  holds_same a n h = ap (λ o. option_map_or (λ q. prefix_holds q a) o false) (sym (prefixes.are n (below n h)))
+  holds_same : (a n : ℕ) → IsIn n (all_nets p) → (has_prefix seen n && prefix_holds (item_at seen n).prefix a) ≡ holds_in p tags n a
+  holds_same a n h = holds_if (prefix_at seen n) a ∙ ap (λ o. option_map_or (λ q. prefix_holds q a) o false) (sym (prefixes.are n (below n h)))
 
-  length_same : (n : ℕ) → IsIn n (all_nets p) → (prefix_at seen n).len ≡ length_in p tags n
-  length_same n h = ap (λ o. option_map_or (λ (q : Cidr). q.len) o 0) (sym (prefixes.are n (below n h)))
+  length_same : (n : ℕ) → IsIn n (all_nets p) → (item_at seen n).prefix.len ≡ length_in p tags n
+  length_same n h = length_if (prefix_at seen n) ∙ ap (λ o. option_map_or (λ (q : Cidr). q.len) o 0) (sym (prefixes.are n (below n h)))
 
-  inside_same : (outer : Cidr) (n : ℕ) → IsIn n (all_nets p) → is_inside (prefix_at seen n) outer ≡ is_part_of (prefix_in p tags n) (Some outer)
-  inside_same outer n h = ap (λ o. is_part_of o (Some outer)) (sym (prefixes.are n (below n h)))
+  inside_same : (outer : Cidr) (n : ℕ) → IsIn n (all_nets p) → (has_prefix seen n && is_inside (item_at seen n).prefix outer) ≡ is_part_of (prefix_in p tags n) (Some outer)
+  inside_same outer n h = inside_if (prefix_at seen n) outer ∙ ap (λ o. is_part_of o (Some outer)) (sym (prefixes.are n (below n h)))
 
-  place_is : (a : ℕ) → place_in (map (item_at seen) (all_nets p)) a ≡ place p tags a
+  place_is : (a : ℕ) → place_in (entries_below seen (length p.nets)) a ≡ place p tags a
   place_is a =
-      let test = λ (n : ℕ). prefix_holds (prefix_at seen n) a in
-      let kept = filter test (all_nets p) in
-      ap longest (filter_map (λ e. prefix_holds e.prefix a) (item_at seen) (all_nets p))
+      let holds = λ (n : ℕ). prefix_holds (item_at seen n).prefix a in
+      let there = filter (has_prefix seen) (all_nets p) in
+      let kept = filter (λ n. holds_in p tags n a) (all_nets p) in
+      ap longest (filter_map (λ e. prefix_holds e.prefix a) (item_at seen) there)
+      ∙ (ap (λ xs. longest (map (item_at seen) xs)) (filter_twice holds (has_prefix seen) (all_nets p) ∙ filter_same (λ n. has_prefix seen n && holds n) (λ n. holds_in p tags n a) (all_nets p) (holds_same a))
       ∙ (ap (option_map (λ (e : Entry). e.net)) (longest_map (λ e. e.prefix.len) (item_at seen) kept)
-      ∙ (option_map_twice seen (longest_by (λ n. (prefix_at seen n).len) kept)
-      ∙ (longest_same (λ n. (prefix_at seen n).len) (length_in p tags) kept (λ n h. length_same n (from_filter test n (all_nets p) h).0)
-      ∙ ap (longest_by (length_in p tags)) (filter_same test (λ n. holds_in p tags n a) (all_nets p) (holds_same a)))))
+      ∙ (option_map_twice seen (longest_by (λ n. (item_at seen n).prefix.len) kept)
+      ∙ longest_same (λ n. (item_at seen n).prefix.len) (length_in p tags) kept (λ n h. length_same n (from_filter (λ k. holds_in p tags k a) n (all_nets p) h).0))))
 
-  inside_is : (outer : Cidr) → nets_inside (map (item_at seen) (all_nets p)) outer ≡ nets_within p tags outer
+  inside_is : (outer : Cidr) → nets_inside (entries_below seen (length p.nets)) outer ≡ nets_within p tags outer
   inside_is outer =
-      let test = λ (n : ℕ). is_inside (prefix_at seen n) outer in
-      ap (λ es. sorted_by nat_lt (map (λ (e : Entry). e.net) es)) (filter_map (λ e. is_inside e.prefix outer) (item_at seen) (all_nets p))
-      ∙ (ap (sorted_by nat_lt) (map_twice seen (filter test (all_nets p)))
-      ∙ (in_order test 0 (length p.nets) ∙ filter_same test (λ n. is_part_of (prefix_in p tags n) (Some outer)) (all_nets p) (inside_same outer)))
+      let test = λ (n : ℕ). is_inside (item_at seen n).prefix outer in
+      let there = filter (has_prefix seen) (all_nets p) in
+      let part = λ (n : ℕ). is_part_of (prefix_in p tags n) (Some outer) in
+      ap (λ es. sorted_by nat_lt (map (λ (e : Entry). e.net) es)) (filter_map (λ e. is_inside e.prefix outer) (item_at seen) there)
+      ∙ (ap (sorted_by nat_lt) (map_twice seen (filter test there) ∙ (filter_twice test (has_prefix seen) (all_nets p) ∙ filter_same (λ n. has_prefix seen n && test n) part (all_nets p) (inside_same outer)))
+      ∙ in_order part 0 (length p.nets))
 
-pub placed : (p : Policy) (tags : List ℕ) (seen : List Cidr) (items : List Entry) (a : ℕ) → IsTable p tags seen items → place_in items a ≡ place p tags a
+pub placed : (p : Policy) (tags : List ℕ) (seen : List (Option Cidr)) (items : List Entry) (a : ℕ) → IsTable p tags seen items → place_in items a ≡ place p tags a
 placed p tags seen items a t = ap (λ es. place_in es a) (t.items_are ∙ entries_are p tags seen t.prefixes) ∙ place_is p tags seen t.prefixes a
 
-pub within : (p : Policy) (tags : List ℕ) (seen : List Cidr) (items : List Entry) (outer : Cidr) → IsTable p tags seen items → nets_inside items outer ≡ nets_within p tags outer
+pub within : (p : Policy) (tags : List ℕ) (seen : List (Option Cidr)) (items : List Entry) (outer : Cidr) → IsTable p tags seen items → nets_inside items outer ≡ nets_within p tags outer
 within p tags seen items outer t = ap (λ es. nets_inside es outer) (t.items_are ∙ entries_are p tags seen t.prefixes) ∙ inside_is p tags seen t.prefixes outer

@@ -2,18 +2,18 @@
 use Rattle.std.proofs.Common.{◌≡◌, ℕ, ◌+◌, ◌-◌, ◌<◌, ◌≤◌, Bool, true, false, cond, List, [], ◌∷◌, ◌++◌, length, map, take, drop, refl, sym, ap, subst, ◌∙◌, ⊎_elim, arith}
 use Rattle.std.specs.Prelude.{nat_lt, ◌==◌, ◌&&◌, ◌||◌, slice_index_or, IsTrue}
 use Rattle.std.specs.List.{All}
-use Rattle.std.proofs.lemmas.Bool.{ltb-true, ltb-false, lt-ltb, or_cases, and_parts, false≢true}
+use Rattle.std.proofs.lemmas.Bool.{cases_lt, ltb-true, ltb-false, lt-ltb, or_cases, and_parts, false≢true}
 use Rattle.std.proofs.lemmas.List.{length-map, length-take, length_push, map_push, get_or-map, get_or-take, get_or_push, get_or_append_left, get_or-append_right, take_more, take_at, drop_at, length-append, take_all}
 use Rattle.std.proofs.lemmas.List.Elements.{All-push, All-weaker, All-get_or, All-head, All-tail}
-use Rattle.spoc_base.specs.Shown.{cidr_of}
 use Rattle.policy_model.specs.Policy.{Policy}
 use Rattle.policy_model.specs.Tags.{Views}
 use Rattle.policy_model.specs.Faults.{all_views}
 use Rattle.policy_model.specs.FirstFault.{ViewPlace, AtZone, AtRouter, view_at, place_order, is_lower}
 use Rattle.nat_view.specs.Seen.{has_view, AreApartIn, AreAllApart, AreFirstSame, AreLeastSame}
-use Rattle.nat_view.specs.Shown.{tags_of, IsTableOf, RefusesTable}
-use Rattle.nat_view.specs.Places.{tags_at, rows_of, views_of, place_at, ArePlaced, HasTable}
+use Rattle.nat_view.specs.Shown.{numbers_of, tags_of, cidrs_of, IsTableOf, RefusesTable}
+use Rattle.nat_view.specs.Places.{tags_at, rows_of, views_of, place_at, ArePlaced, AreUnlike, HasNoneOf, ShareTables, HasTable}
 use Rattle.spoc_base.specs.declared.ids.NetId.{NetId}
+use Rattle.spoc_base.specs.declared.ids.TagId.{TagId}
 use Rattle.subnet_tree.specs.declared.fail.TreeFail.{TreeFail}
 use Rattle.subnet_tree.specs.declared.fail.TreeFail.TheVariants as tree
 use Rattle.nat_view.specs.Fails.{place_seen, IsFailAt, RefusesViews}
@@ -24,20 +24,57 @@ use Rattle.nat_view.proofs.Items.{apart_in}
 
 -- ---- one table more
 
-pub has_old : (p : Policy) (tags : List ℕ) (old : List Table) (k : ℕ) → All (IsTableOf p) old → k < length old → tags_at old k ≡ tags → HasTable p tags old old k
-has_old p tags old k all there is = record { tables_are = all; longer = omega arith; kept = λ i h. refl; there = there; is = is }
+-- tags with one number are one
+pub same_items : (xs ys : List TagId) → numbers_of xs ≡ numbers_of ys → xs ≡ ys
+same_items [] [] e = refl
+same_items [] (y ∷ ys) e = absurd (let z : ⊥ = cc in z)
+same_items (x ∷ xs) [] e = absurd (let z : ⊥ = cc in z)
+same_items (x ∷ xs) (y ∷ ys) e =
+    let heads : x.0 ≡ y.0 = cc in
+    let tails : numbers_of xs ≡ numbers_of ys = cc in
+    ap (λ n. let t : TagId = record { 0 = n } in t ∷ xs) heads ∙ ap (λ zs. y ∷ zs) (same_items xs ys tails)
 
-pub has_new : (p : Policy) (tags : List ℕ) (old : List Table) (t : Table) → All (IsTableOf p) old → IsTableOf p t → tags_of t ≡ tags → HasTable p tags old (old ++ t ∷ []) (length old)
-has_new p tags old t all table is =
+pub has_old : (p : Policy) (tags : List ℕ) (old : List Table) (k : ℕ) → All (IsTableOf p) old → AreUnlike old → k < length old → tags_at old k ≡ tags → HasTable p tags old old k
+has_old p tags old k all unlike there is = record { tables_are = all; unlike = unlike; longer = omega arith; kept = λ i h. refl; there = there; is = is }
+
+module _ (old : List Table) (t : Table) where
+  old_tags : (i : ℕ) → i < length old → tags_at (old ++ t ∷ []) i ≡ tags_at old i
+  old_tags i h = let m = length-map old tags_of in ap (λ xs. slice_index_or xs i []) (map_push tags_of old t) ∙ get_or_append_left (map tags_of old) (tags_of t ∷ []) [] i (omega (arith, h, m))
+
+  new_tags : tags_at (old ++ t ∷ []) (length old) ≡ tags_of t
+  new_tags = ap (λ xs. slice_index_or xs (length old) []) (map_push tags_of old t) ∙ get_or_push (map tags_of old) (tags_of t) [] (length old) (length-map old tags_of)
+
+  -- the new table has other tags than the old ones
+  one_unlike : HasNoneOf old (tags_of t) → (i j : ℕ) → i < length old → length old ≤ j → j < length (old ++ t ∷ []) → tags_at (old ++ t ∷ []) i ≡ tags_at (old ++ t ∷ []) j → ⊥
+  one_unlike other i j ib le jb e =
+      let n = length_push old t in
+      let at : j ≡ length old = omega (arith, le, jb, n) in
+      other i ib (sym (old_tags i ib) ∙ (e ∙ (ap (tags_at (old ++ t ∷ [])) at ∙ new_tags)))
+
+  more_unlike : AreUnlike old → HasNoneOf old (tags_of t) → AreUnlike (old ++ t ∷ [])
+  more_unlike unlike other = λ i j ib jb e.
+      let n = length_push old t in
+      ⊎_elim
+      (λ (il : i < length old). ⊎_elim
+      (λ (jl : j < length old). unlike i j il jl (sym (old_tags i il) ∙ (e ∙ old_tags j jl)))
+      (λ (jg : length old ≤ j). absurd (one_unlike other i j il jg jb e))
+      (cases_lt j (length old)))
+      (λ (ig : length old ≤ i). ⊎_elim
+      (λ (jl : j < length old). absurd (one_unlike other j i jl ig ib (sym e)))
+      (λ (jg : length old ≤ j). omega (arith, ig, jg, ib, jb, n))
+      (cases_lt j (length old)))
+      (cases_lt i (length old))
+
+pub has_new : (p : Policy) (tags : List ℕ) (old : List Table) (t : Table) → All (IsTableOf p) old → AreUnlike old → HasNoneOf old tags → IsTableOf p t → tags_of t ≡ tags → HasTable p tags old (old ++ t ∷ []) (length old)
+has_new p tags old t all unlike other table is =
     let n = length_push old t in
-    let m = length-map old tags_of in
-    let e = map_push tags_of old t in
     record {
       tables_are = All-push (IsTableOf p) old t all table;
+      unlike = more_unlike old t unlike (λ k h e. other k h (e ∙ is));
       longer = omega (arith, n);
-      kept = λ i h. ap (λ xs. slice_index_or xs i []) e ∙ get_or_append_left (map tags_of old) (tags_of t ∷ []) [] i (omega (arith, h, m));
+      kept = old_tags old t;
       there = omega (arith, n);
-      is = ap (λ xs. slice_index_or xs (length old) []) e ∙ (get_or_push (map tags_of old) (tags_of t) [] (length old) m ∙ is);
+      is = new_tags old t ∙ is;
     }
 
 rows_same : (f g : ℕ → List ℕ) (xs : List ℕ) → All (λ i. f i ≡ g i) xs → map f xs ≡ map g xs
@@ -51,9 +88,23 @@ one_place_more p wanted old new places k i so_far lt has =
     let kept = rows_same (tags_at new) (tags_at old) places (All-weaker (λ j. j < length old) (λ j. tags_at new j ≡ tags_at old j) has.kept places so_far.below) in
     record {
       tables_are = has.tables_are;
+      unlike = has.unlike;
       below = All-push (λ j. j < length new) places i (All-weaker (λ j. j < length old) (λ j. j < length new) (λ j h. omega (arith, h, longer)) places so_far.below) has.there;
       rows = map_push (tags_at new) places i ∙ (ap (λ xs. xs ++ tags_at new i ∷ []) (kept ∙ so_far.rows) ∙ (ap (λ x. take k wanted ++ x ∷ []) has.is ∙ sym (take_more wanted k [] lt)));
     }
+
+-- ---- one table for equal rows
+
+pub tables_are_shared : (p : Policy) (wanted : List (List ℕ)) (tables : List Table) (places : List ℕ) (k : ℕ) → ArePlaced p wanted tables places k → length wanted ≤ k → ShareTables wanted places
+tables_are_shared p wanted tables places k placed all = λ i j ib jb e.
+    let rows = placed.rows ∙ take_all k wanted all in
+    let n = ap length rows in
+    let m = length-map places (tags_at tables) in
+    let at : (h : ℕ) → h < length wanted → h < length places = λ h b. omega (arith, n, m, b) in
+    let row : (h : ℕ) → h < length wanted → tags_at tables (slice_index_or places h 0) ≡ slice_index_or wanted h [] = λ h b. sym (get_or-map (tags_at tables) places h 0 [] (at h b)) ∙ ap (λ xs. slice_index_or xs h []) rows in
+    placed.unlike (slice_index_or places i 0) (slice_index_or places j 0)
+    (All-get_or (λ x. x < length tables) places i 0 (at i ib) placed.below) (All-get_or (λ x. x < length tables) places j 0 (at j jb) placed.below)
+    (row i ib ∙ (e ∙ sym (row j jb)))
 
 -- ---- no two networks with one prefix
 
@@ -61,7 +112,7 @@ table_apart : (p : Policy) (tables : List Table) → All (IsTableOf p) tables �
 table_apart p [] all i h = absurd (let z : ⊥ = omega (arith, h) in z)
 table_apart p (t ∷ ts) all i h =
     let found = slice_index_or (t ∷ ts) i t in
-    subst (AreApartIn p) (sym (get_or-map tags_of (t ∷ ts) i t [] h)) (apart_in p (tags_of found) (map cidr_of found.seen.items) found.tree (All-get_or (IsTableOf p) (t ∷ ts) i t h all))
+    subst (AreApartIn p) (sym (get_or-map tags_of (t ∷ ts) i t [] h)) (apart_in p (tags_of found) (cidrs_of found.seen.items) found.tree (All-get_or (IsTableOf p) (t ∷ ts) i t h all))
 
 pub rows_apart : (p : Policy) (wanted : List (List ℕ)) (tables : List Table) (places : List ℕ) (k : ℕ) → ArePlaced p wanted tables places k → k ≤ length wanted → (j : ℕ) → j < k → AreApartIn p (slice_index_or wanted j [])
 rows_apart p wanted tables places k placed fits j lt =

@@ -1,5 +1,5 @@
 -- What clauses see of tables, and of an error of building.
-use Rattle.std.specs.Prelude.{ℕ, List, map, Option, Some}
+use Rattle.std.specs.Prelude.{ℕ, List, map, Option, option_map}
 use Rattle.spoc_base.specs.Address.{Cidr}
 use Rattle.spoc_base.specs.Shown.{cidr_of}
 use Rattle.spoc_base.specs.declared.address.Prefix.{Prefix}
@@ -15,15 +15,19 @@ abbrev pub numbers_of : List TagId → List ℕ
 numbers_of tags = map (λ tag. tag.0) tags
 
 -- a translation as the definitions have it
-abbrev pub nat_seen : TagId × Prefix → ℕ × Option Cidr
-nat_seen nat = (nat.0.0, Some (cidr_of nat.1))
+abbrev pub nat_seen : TagId × Option Prefix → ℕ × Option Cidr
+nat_seen nat = (nat.0.0, option_map cidr_of nat.1)
 
 abbrev pub tags_of : Table → List ℕ
 tags_of t = numbers_of t.tags.items
 
+-- the prefixes of a table
+abbrev pub cidrs_of : List (Option Prefix) → List (Option Cidr)
+cidrs_of seen = map (option_map cidr_of) seen
+
 -- The table is that of its tags.
 abbrev pub IsTableOf : Policy → Table → Type 0
-IsTableOf p t = IsTable p (tags_of t) (map cidr_of t.seen.items) t.tree
+IsTableOf p t = IsTable p (tags_of t) (cidrs_of t.seen.items) t.tree
 
 -- The two networks are the least ones with one prefix. Want of memory says nothing.
 abbrev pub RefusesTable : Policy → List ℕ → TreeFail → Type 0

@@ -1,12 +1,12 @@
-ghost use Rattle.std.specs.Prelude.{◌≡◌, ◌↔◌, IsTrue, ◌<◌, ◌+◌, ◌≤◌, length, map, IfOk, IfErr, IfSome, OnErr, [], slice_index_or};
+ghost use Rattle.std.specs.Prelude.{◌≡◌, ◌↔◌, IsTrue, ◌<◌, ◌+◌, ◌≤◌, length, map, IfOk, IfErr, IfSome, MatchOption, OnErr, [], slice_index_or};
 ghost use Rattle.std.specs.List.{All};
 ghost use Rattle.policy_model.specs.Faults.{all_views};
 ghost use Rattle.topology.specs.View.{policy_of};
 ghost use Rattle.nat_view.specs.Fails.{place_seen, IsFailAt, RefusesViews};
-ghost use Rattle.nat_view.specs.Places.{ArePlaced, HasTable, place_at, tags_at};
+ghost use Rattle.nat_view.specs.Places.{ArePlaced, AreUnlike, HasNoneOf, HasTable, ShareTables, place_at, tags_at};
 ghost use Rattle.nat_view.specs.Seen.{AreAllApart};
 ghost use Rattle.nat_view.specs.Shown.{numbers_of, IsTableOf, RefusesTable};
-ghost use Rattle.nat_view.specs.Views.{seen_of};
+ghost use Rattle.nat_view.specs.Views.{seen_of, table_numbers};
 
 use crate::fail::{ViewAt, ViewFail};
 use crate::table::{Table, table_of};
@@ -24,10 +24,10 @@ fn same_tags(a: &[TagId], b: &[TagId]) -> bool
     a == b
 }
 
-// The place of a table of these tags.
+// The place of the table of these tags. `None` exactly where there is none.
 fn find(tables: &[Table], tags: &[TagId]) -> Option<usize>
-    ensures there { IfSome result (λ k. k < length tables.now) }
     ensures is { IfSome result (λ k. tags_at tables.now k ≡ numbers_of tags.now) }
+    ensures there { MatchOption result (HasNoneOf tables.now (numbers_of tags.now)) (λ k. k < length tables.now) }
 {
     for k in 0..tables.len() {
         if same_tags(&tables[k].tags, tags) {
@@ -44,7 +44,8 @@ fn place_of(
     tags: &[TagId],
     tables: &mut Vec<Table>,
 ) -> Result<usize, TreeFail>
-    requires { All (IsTableOf (policy_of topo)) tables.old.items }
+    requires tables { All (IsTableOf (policy_of topo)) tables.old.items }
+    requires unlike { AreUnlike tables.old.items }
     ensures table { IfOk result (λ k. HasTable (policy_of topo.entry) (numbers_of tags.now) tables.old.items tables.new.items k) }
     ensures refused { OnErr result (tables.new.items ≡ tables.old.items) }
     ensures fail { IfErr result (RefusesTable (policy_of topo.entry) (numbers_of tags.now)) }
@@ -128,8 +129,8 @@ fn place_all(
     Ok((tables, places))
 }
 
-/// The views of all zones and routers, by the tags that are in force there. `Same` comes exactly
-/// where two networks have one prefix in a view.
+/// The views of all zones and routers, by the tags that are in force there. Those with equal tags
+/// share one table. `Same` comes exactly where two networks have one prefix in a view.
 pub fn view_table<'a>(
     alloc: Global,
     topo: Topo<'a>,
@@ -141,6 +142,7 @@ pub fn view_table<'a>(
     ensures policy { IfOk result (λ v. (seen_of v).policy ≡ policy_of topo.entry) }
     ensures views { IfOk result (λ v. (seen_of v).views ≡ tags.now) }
     ensures apart { IfOk result (λ v. AreAllApart (policy_of topo.entry) tags.now) }
+    ensures shared { IfOk result (λ v. ShareTables (all_views tags.now) (table_numbers v)) }
     ensures refused { IfErr result (RefusesViews (policy_of topo.entry) tags.now) }
 {
     let zones = graph.count();

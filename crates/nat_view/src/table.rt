@@ -1,24 +1,26 @@
-ghost use Rattle.std.specs.Prelude.{◌≡◌, ◌<◌, ◌≤◌, ℕ, ◌==◌, length, map, IfOk, IfErr, Some, option_map, find};
+ghost use Rattle.std.specs.Prelude.{◌≡◌, ◌<◌, ◌≤◌, ℕ, ◌==◌, length, map, IfOk, IfErr, OnOk, IsTrue, ◌++◌, option_map, find};
 ghost use Rattle.std.specs.List.{list_any};
 ghost use Rattle.spoc_base.specs.Shown.{cidr_of};
 ghost use Rattle.policy_model.specs.Lists.{has};
 ghost use Rattle.policy_model.specs.Policy.{net_of};
 ghost use Rattle.policy_model.specs.Places.{prefix_in};
+ghost use Rattle.topology.specs.Sound.{keeps_length};
 ghost use Rattle.topology.specs.View.{policy_of};
 ghost use Rattle.subnet_tree.specs.Shown.{entry_of};
-ghost use Rattle.nat_view.specs.Tables.{ArePrefixes, entries_of};
-ghost use Rattle.nat_view.specs.Shown.{numbers_of, nat_seen, IsTableOf, RefusesTable};
+ghost use Rattle.nat_view.specs.Tables.{ArePrefixes, entries_of, entry_if};
+ghost use Rattle.nat_view.specs.Shown.{numbers_of, nat_seen, cidrs_of, IsTableOf, RefusesTable};
 
 use spoc_base::{NetId, NoMemory, Prefix, TagId};
 use std::alloc::Global;
 use subnet_tree::{Tree, TreeFail};
 use topology::Topo;
 
-/// The prefixes of all networks where some tags are in force, by number, and the tree of them.
+/// The prefixes of all networks where some tags are in force, by number, with none where a network
+/// is hidden, and the tree of those that are there.
 #[derive(Drop)]
 pub(crate) struct Table {
     pub(crate) tags: Vec<TagId>,
-    pub(crate) seen: Vec<Prefix>,
+    pub(crate) seen: Vec<Option<Prefix>>,
     pub(crate) tree: Tree,
 }
 
@@ -43,9 +45,9 @@ fn is_in_force(tags: &[TagId], tag: TagId) -> bool
     is_one_of(tags, tag)
 }
 
-// The first of the translations whose tag is in force.
-fn translation(nats: &[(TagId, Prefix)], tags: &[TagId]) -> Option<Prefix>
-    ensures { option_map (λ q. Some (cidr_of q)) result ≡ option_map (λ nat. nat.1) (find (λ nat. has (numbers_of tags.now) nat.0) (map nat_seen nats.now)) }
+// The first of the translations whose tag is in force, with no prefix where it hides.
+fn translation(nats: &[(TagId, Option<Prefix>)], tags: &[TagId]) -> Option<Option<Prefix>>
+    ensures { option_map (option_map cidr_of) result ≡ option_map (λ nat. nat.1) (find (λ nat. has (numbers_of tags.now) nat.0) (map nat_seen nats.now)) }
 {
     for nat in nats {
         if is_in_force(tags, nat.0) {
@@ -55,22 +57,22 @@ fn translation(nats: &[(TagId, Prefix)], tags: &[TagId]) -> Option<Prefix>
     None
 }
 
-// The prefix of a network where the tags are in force.
-fn prefix_of(topo: Topo<'_>, tags: &[TagId], n: u32) -> Prefix
+// The prefix of a network where the tags are in force, if it isn't hidden.
+fn prefix_of(topo: Topo<'_>, tags: &[TagId], n: u32) -> Option<Prefix>
     requires { n < length (policy_of topo).nets }
-    ensures value { prefix_in (policy_of topo.entry) (numbers_of tags.now) n ≡ Some (cidr_of result) }
-    ensures length { (cidr_of result).len ≡ (net_of (policy_of topo.entry) n).own.len }
+    ensures value { prefix_in (policy_of topo.entry) (numbers_of tags.now) n ≡ option_map cidr_of result }
+    ensures length { IsTrue (keeps_length (net_of (policy_of topo.entry) n).own (option_map cidr_of result)) }
 {
     let net = topo.net(NetId(n));
     match translation(net.nats, tags) {
-        Some(prefix) => prefix,
-        None => net.own,
+        Some(seen) => seen,
+        None => Some(net.own),
     }
 }
 
 // The prefixes of all networks.
-fn prefixes(alloc: Global, topo: Topo<'_>, tags: &[TagId]) -> Result<Vec<Prefix>, NoMemory>
-    ensures { IfOk result (λ v. ArePrefixes (policy_of topo.entry) (numbers_of tags.now) (map cidr_of v.items)) }
+fn prefixes(alloc: Global, topo: Topo<'_>, tags: &[TagId]) -> Result<Vec<Option<Prefix>>, NoMemory>
+    ensures { IfOk result (λ v. ArePrefixes (policy_of topo.entry) (numbers_of tags.now) (cidrs_of v.items)) }
 {
     let mut seen = Vec::new(alloc);
     for n in 0..net_count(topo) {
@@ -80,14 +82,28 @@ fn prefixes(alloc: Global, topo: Topo<'_>, tags: &[TagId]) -> Result<Vec<Prefix>
     Ok(seen)
 }
 
-// The prefixes as the items of a tree.
-fn items_of(alloc: Global, seen: &[Prefix]) -> Result<Vec<(NetId, Prefix)>, NoMemory>
+// Adds an item where there is a prefix.
+fn push_item(
+    n: u32,
+    prefix: Option<Prefix>,
+    items: &mut Vec<(NetId, Prefix)>,
+) -> Result<(), NoMemory>
+    ensures { OnOk result (map entry_of items.new.items ≡ map entry_of items.old.items ++ entry_if n (option_map cidr_of prefix)) }
+{
+    if let Some(prefix) = prefix {
+        items.push((NetId(n), prefix))?;
+    }
+    Ok(())
+}
+
+// The prefixes that are there as the items of a tree.
+fn items_of(alloc: Global, seen: &[Option<Prefix>]) -> Result<Vec<(NetId, Prefix)>, NoMemory>
     requires { length seen.now ≤ 65535 }
-    ensures { IfOk result (λ v. map entry_of v.items ≡ entries_of (map cidr_of seen.now)) }
+    ensures { IfOk result (λ v. map entry_of v.items ≡ entries_of (cidrs_of seen.now)) }
 {
     let mut items = Vec::new(alloc);
     for n in 0..seen.len() as u32 {
-        items.push((NetId(n), seen[n as usize]))?;
+        push_item(n, seen[n as usize], &mut items)?;
     }
     Ok(items)
 }

@@ -1,13 +1,14 @@
 -- What is written for a policy of which no fault is told decides exactly.
-use Rattle.std.proofs.Common.{◌≡◌, ℕ, subst}
+use Rattle.std.proofs.Common.{◌≡◌, ℕ, subst, arith}
 use Rattle.std.specs.Prelude.{Ok}
+use Rattle.std.proofs.lemmas.Bool.{false_from_ne_true}
 use Rattle.policy_model.specs.Policy.{Policy}
+use Rattle.policy_model.specs.Faults.{is_translated_inside}
+use Rattle.policy_model.specs.FirstFault.{NatInside}
 use Rattle.policy_model.specs.Passing.{Config}
 use Rattle.policy_model.specs.Headline.{Meaning, IsMeaning, permits_in}
 use Rattle.policy_laws.specs.Routed.{IsWired}
 use Rattle.policy_laws.specs.Shaped.{IsShaped}
-use Rattle.policy_laws.proofs.Routing.{tables_send}
-use Rattle.policy_laws.proofs.Whole.{routed}
 use Rattle.topology.specs.Sound.{IsSound}
 use Rattle.meaning_laws.specs.Tables.{meaning_of}
 use Rattle.meaning_laws.proofs.MeaningThere.{meaning_found}
@@ -25,16 +26,18 @@ decides_own : (m : Meaning) (written : Written) → IsUntold m written → IsMea
 decides_own m written told its sound shaped wired =
     let config : ℕ → Config = config_for m.site.policy (lists_for m) in
     let none = no_view_fault m told.views in
-    let distinct = distinct_prefixes m.site.policy m its sound (no_tag_fault m sound told.tags) none in
+    let tags = no_tag_fault m sound told.tags in
+    let distinct = distinct_prefixes m.site.policy m its sound tags none in
     let pass = lists_by_router_pass m.site.policy m config its shaped distinct (lists_written m) in
     record {
       meaning = m;
       is_its = its;
+      inside = λ n tag below. false_from_ne_true (is_translated_inside m.site m.views n tag) (λ t. tags (NatInside n tag) (record { lower = omega arith; upper = omega arith }) (below, t));
       walks = pass.0;
       devices = pass.1;
+      entering = pass.2;
       lists = list_there m config (lists_written m);
       direct = send_direct m its shaped wired distinct none;
-      tables = λ sent. tables_send m.site.policy m (configs_for m) its (routed m.site m.views (permits_in m) shaped wired sent.clear) sent.tables;
     }
 
 -- so it is with a policy that has the meaning

@@ -1,7 +1,10 @@
 //! That what is compiled decides exactly: where no fault is told of a policy, the access lists that are written for it pass an unambiguous packet
-//! of an allowed walk just if it is permitted or a reply.
+//! of an allowed walk just if it is permitted or a reply. Beside that, the names of device files are distinct, and the tables of a single router send.
 //! The functions here do nothing: each has a law as its contract.
 #![tactic(auto)]
+
+mod names;
+mod routers;
 
 ghost use Rattle.std.specs.Prelude.{◌≡◌, ℕ, ◌<◌, [], length, slice_index_or, Ok, IsTrue};
 ghost use Rattle.policy_model.specs.Policy.{Policy, router_at, is_managed};
@@ -13,6 +16,9 @@ ghost use Rattle.topology.specs.Sound.{IsSound};
 ghost use Rattle.meaning_laws.specs.Tables.{meaning_of};
 ghost use Rattle.policy_outcome.specs.Outcome.{Written, lists_for, written_for, outcome_for};
 ghost use Rattle.policy_outcome.specs.Exact.{DecidesExactly, configs_for};
+
+pub use names::files_have_distinct_names;
+pub use routers::tables_of_one_router_send;
 
 /// The list that is written for an interface of a managed router is the policy's own.
 pub fn lists_are_written()

@@ -18,7 +18,7 @@ use Rattle.path_walk.specs.Tables.{IsNew, AreNew, AreAll, IsGrown, IsAdded}
 use Rattle.path_walk.specs.declared.marks.Marks.{Marks}
 use Rattle.path_walk.proofs.Marking.{IsMarking, marking_first, marking_swept, marking_done}
 
-same_key : (a b : ℕ) → is_eq (nat_cmp a b) ≡ (a == b)
+pub same_key : (a b : ℕ) → is_eq (nat_cmp a b) ≡ (a == b)
 same_key a b = grind (arith, nat_tests)
 
 same_some : {A : Type 0} (x y : A) → Some x ≡ Some y → x ≡ y

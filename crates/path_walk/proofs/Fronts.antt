@@ -10,7 +10,7 @@ use Rattle.policy_model.specs.Lists.{has, are_distinct}
 use Rattle.policy_model.specs.Policy.{Policy, router_at}
 use Rattle.policy_model.specs.Paths.{Crossing, leads, places_on, routers_on, interfaces_on}
 use Rattle.policy_model.specs.Zones.{Site, zone_at}
-use Rattle.policy_model.specs.Walks.{is_crossing, has_two_of, is_walk, is_unrestricted, is_allowed_walk}
+use Rattle.policy_model.specs.Walks.{is_crossing, has_two_of, restricted_sets, is_walk, is_unrestricted, is_allowed_walk}
 use Rattle.policy_model.proofs.AllWalks.{parts_of}
 use Rattle.path_walk.specs.Search.{end_of, may_begin, goes_on}
 
@@ -127,10 +127,10 @@ two_in_front members xs ys h =
 
 unrestricted_front : (p : Policy) (path more : List Crossing) → is_unrestricted p (path ++ more) ≡ true → is_unrestricted p path ≡ true
 unrestricted_front p path more h =
-    all_grows (λ r. not (has_two_of r.members (interfaces_on (path ++ more)))) (λ r. not (has_two_of r.members (interfaces_on path))) p.restrictions
-    (λ r. not_back (has_two_of r.members (interfaces_on path)) (has_two_of r.members (interfaces_on (path ++ more)))
-    (λ e. ap (λ (l : List ℕ). has_two_of r.members l) (flat_map-append (λ (c : Crossing). c.enter ∷ c.leave ∷ []) path more)
-    ∙ two_in_front r.members (interfaces_on path) (interfaces_on more) e)) h
+    all_grows (λ members. not (has_two_of members (interfaces_on (path ++ more)))) (λ members. not (has_two_of members (interfaces_on path))) (restricted_sets p)
+    (λ members. not_back (has_two_of members (interfaces_on path)) (has_two_of members (interfaces_on (path ++ more)))
+    (λ e. ap (λ (l : List ℕ). has_two_of members l) (flat_map-append (λ (c : Crossing). c.enter ∷ c.leave ∷ []) path more)
+    ∙ two_in_front members (interfaces_on path) (interfaces_on more) e)) h
 
 -- ---- beginnings
 

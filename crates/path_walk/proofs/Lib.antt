@@ -4,6 +4,7 @@ mod Bridges
 mod Ends
 mod Fronts
 mod Going
+mod Implied
 mod Nowhere
 mod Shutting
 mod Marked
@@ -15,6 +16,7 @@ mod Rows
 mod Runs
 mod Starts
 mod Tree
+mod Wanted
 mod FirstWalks
 mod Open
 pub mod Passed

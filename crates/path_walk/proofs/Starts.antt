@@ -4,10 +4,9 @@ use Rattle.std.specs.Prelude.{◌==◌, filter, flat_map}
 use Rattle.std.specs.List.{list_any, list_all}
 use Rattle.std.proofs.lemmas.List.{append-nil, map-id}
 use Rattle.std.proofs.lemmas.Bool.{and_from, and_right, eq-eqb, not_from_false}
-use Rattle.policy_model.specs.Policy.{Restriction}
 use Rattle.policy_model.specs.Paths.{Crossing}
 use Rattle.policy_model.specs.Zones.{Site}
-use Rattle.policy_model.specs.Walks.{has_two_of, is_allowed_walk, all_crossings, all_paths, allowed_walks}
+use Rattle.policy_model.specs.Walks.{has_two_of, restricted_sets, is_allowed_walk, all_crossings, all_paths, allowed_walks}
 use Rattle.path_walk.specs.Search.{AreOpen, branches_of, to_come, end_of, may_begin, goes_on, walks_on, most_of}
 use Rattle.path_walk.proofs.Fronts.{begins_by, any_none}
 use Rattle.path_walk.proofs.Tree.{onward_by_doors, none_home}
@@ -19,14 +18,14 @@ none_on members =
     any_none (λ i. list_any (λ j. not (i == j) && false && false) members) members
     (λ i. any_none (λ j. not (i == j) && false && false) members (λ j. and_right (not (i == j) && false) false refl))
 
-empty_unrestricted : (restrictions : List Restriction) → list_all (λ r. not (has_two_of r.members [])) restrictions ≡ true
+empty_unrestricted : (sets : List (List ℕ)) → list_all (λ members. not (has_two_of members [])) sets ≡ true
 empty_unrestricted [] = refl
-empty_unrestricted (r ∷ restrictions) = and_from (not (has_two_of r.members [])) (list_all (λ q. not (has_two_of q.members [])) restrictions) (not_from_false (has_two_of r.members []) (none_on r.members)) (empty_unrestricted restrictions)
+empty_unrestricted (members ∷ sets) = and_from (not (has_two_of members [])) (list_all (λ ms. not (has_two_of ms [])) sets) (not_from_false (has_two_of members []) (none_on members)) (empty_unrestricted sets)
 
 -- a walk may begin with the empty path
 pub empty_begins : (s : Site) (from : ℕ) → may_begin s from [] ≡ true
 empty_begins s from =
-    begins_by s from [] (record { crossings = refl; ends = eq-eqb from from refl; zones_once = refl; routers_once = refl; unrestricted = empty_unrestricted s.policy.restrictions })
+    begins_by s from [] (record { crossings = refl; ends = eq-eqb from from refl; zones_once = refl; routers_once = refl; unrestricted = empty_unrestricted (restricted_sets s.policy) })
 
 all_from_empty : (s : Site) (from to : ℕ) → walks_on s from to (most_of s) [] ≡ allowed_walks s from to
 all_from_empty s from to = ap (λ l. filter (is_allowed_walk s from to) l) (map-id (all_paths s))

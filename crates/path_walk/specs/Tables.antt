@@ -1,5 +1,5 @@
 -- The marks of the walks from one zone to several, by the zone where they end.
-use Rattle.std.specs.Prelude.{◌≡◌, ◌≢◌, ℕ, ◌==◌, true, if◌then◌else◌, Some, List, [], map}
+use Rattle.std.specs.Prelude.{◌≡◌, ◌≢◌, ℕ, ◌==◌, true, not, ◌&&◌, if◌then◌else◌, Option, None, Some, is_some, List, [], map}
 use Rattle.std.specs.Ordering.{nat_cmp}
 use Rattle.std.specs.BTreeMap.{BTreeMap}
 use Rattle.std.specs.BTreeMap.{get}
@@ -11,7 +11,7 @@ use Rattle.policy_model.specs.Walks.{allowed_walks}
 use Rattle.policy_model.specs.Marks.{Link, marked_crossings, marked_links}
 use Rattle.zone_graph.specs.declared.marks.PairMarks.{PairMarks}
 use Rattle.path_walk.specs.Seen.{crossing_seen, link_seen}
-use Rattle.path_walk.specs.Pairs.{with_pairs, crossing_pairs, link_pairs, all_crossing_pairs, all_link_pairs}
+use Rattle.path_walk.specs.Pairs.{with_pairs, crossing_pairs, link_pairs, crossing_at, link_at, all_crossing_pairs, all_link_pairs}
 use Rattle.path_walk.specs.declared.marks.Marks.{Marks}
 
 -- a table of marks: its two zones, its crossings and its links
@@ -34,6 +34,27 @@ table_of s z = table_between s z.0.0 z.1
 
 abbrev pub pair_from : ZoneId → ZoneId → ZoneId × ZoneId
 pair_from from z = (from, z)
+
+-- the zones that are looked for have marks, but for the one where walks start; no other zone has any
+abbrev pub HasEnds : ℕ → List ℕ → BTreeMap ℕ Marks → Type 0
+HasEnds from wanted ends = (to : ℕ) → is_some (get nat_cmp ends to) ≡ (has wanted to && not (from == to))
+
+-- the same zones have marks
+abbrev pub HaveSameEnds : BTreeMap ℕ Marks → BTreeMap ℕ Marks → Type 0
+HaveSameEnds old new = (to : ℕ) → is_some (get nat_cmp new to) ≡ is_some (get nat_cmp old to)
+
+-- the crossings that are marked, and the links: none where there are no marks
+abbrev pub crossings_in : Option Marks → List Crossing
+crossings_in None = []
+crossings_in (Some m) = map crossing_at m.crossings.keys
+
+abbrev pub links_in : Option Marks → List Link
+links_in None = []
+links_in (Some m) = map link_at m.links.keys
+
+-- the table of the marks of a zone
+abbrev pub table_in : BTreeMap ℕ Marks → ℕ → ℕ → Table
+table_in ends from to = record { from = from; to = to; crossings = crossings_in (get nat_cmp ends to); links = links_in (get nat_cmp ends to) }
 
 -- nothing is marked, and the zone is one that is looked for
 pub record IsNew (from : ℕ) (wanted : List ℕ) (to : ℕ) (m : Marks) : Type 0 where

@@ -1,12 +1,13 @@
+ghost use Rattle.std.specs.Ordering.{nat_cmp};
+ghost use Rattle.std.specs.BTreeMap.{get};
 ghost use Rattle.std.specs.Prelude.{◌≡◌, ◌<◌, ◌≤◌, ◌+◌, ◌∷◌, length, map, take, IfOk, OnOk};
 ghost use Rattle.topology.specs.View.{policy_of};
 ghost use Rattle.zone_graph.specs.Grouped.{IsGraphOf};
-ghost use Rattle.policy_model.specs.Marks.{marked_crossings, marked_links};
 ghost use Rattle.path_walk.specs.Seen.{site_of, path_seen, crossing_seen, link_seen};
 ghost use Rattle.path_walk.specs.Swept.{numbers_of};
-ghost use Rattle.path_walk.specs.Tables.{table_seen, table_between, table_of, pair_from, AreNew, AreAll, IsAdded};
+ghost use Rattle.path_walk.specs.Tables.{table_seen, table_in, table_between, table_of, crossings_in, links_in, pair_from, HasEnds, HaveSameEnds, AreNew, AreAll, IsAdded};
 
-use crate::marks::{Marks, plain_marks};
+use crate::marks::Marks;
 use crate::search::Search;
 use crate::step::Step;
 use spoc_base::{NoMemory, ZoneId};
@@ -24,7 +25,8 @@ struct Finds {
 impl Finds {
     /// No marks yet, for each of the zones that isn't the one where walks start.
     fn new(alloc: Global, from: ZoneId, wanted: &[ZoneId]) -> Result<Finds, NoMemory>
-        ensures { IfOk result (λ finds. AreNew from.0 (numbers_of wanted.now) finds.ends) }
+        ensures zones { IfOk result (λ finds. HasEnds from.0 (numbers_of wanted.now) finds.ends) }
+        ensures marks { IfOk result (λ finds. AreNew from.0 (numbers_of wanted.now) finds.ends) }
     {
         let mut ends = BTreeMap::new(alloc);
         for z in wanted {
@@ -37,7 +39,8 @@ impl Finds {
 
     /// Adds the crossings and the links of a walk that ends in a zone, if that is looked for.
     fn add_walk(&mut self, end: ZoneId, path: &[Step]) -> Result<(), NoMemory>
-        ensures { OnOk result (IsAdded end.0 (path_seen path.now) self.old.ends self.new.ends) }
+        ensures zones { OnOk result (HaveSameEnds self.old.ends self.new.ends) }
+        ensures marks { OnOk result (IsAdded end.0 (path_seen path.now) self.old.ends self.new.ends) }
     {
         match self.ends.get_mut(&end.0) {
             Some(marks) => marks.add_walk(path),
@@ -56,7 +59,8 @@ impl Finds {
     ) -> Result<(), NoMemory>
         requires graph { IsGraphOf (policy_of topo) graph.now }
         requires new { AreNew from.0 (numbers_of wanted.now) self.old.ends }
-        ensures { OnOk result (AreAll (site_of (policy_of topo.entry) graph.now) from.0 self.new.ends) }
+        ensures zones { OnOk result (HaveSameEnds self.old.ends self.new.ends) }
+        ensures marks { OnOk result (AreAll (site_of (policy_of topo.entry) graph.now) from.0 self.new.ends) }
     {
         let mut search = Search::start(alloc, topo, graph, from)?;
         while let Some(end) = search.advance(alloc, topo, graph, from, wanted)? {
@@ -65,40 +69,23 @@ impl Finds {
         Ok(())
     }
 
-    /// The marks of the walks to a zone. Where it wasn't looked for they are searched for alone.
-    fn marks(
-        &self,
-        alloc: Global,
-        topo: Topo<'_>,
-        graph: &ZoneGraph,
-        from: ZoneId,
-        to: ZoneId,
-    ) -> Result<MarkTable, NoMemory>
-        requires graph { IsGraphOf (policy_of topo) graph.now }
-        requires all { AreAll (site_of (policy_of topo) graph.now) from.0 self.now.ends }
-        ensures crossings { IfOk result (λ table. map crossing_seen table.crossings ≡ marked_crossings (site_of (policy_of topo.entry) graph.now) from.0 to.0) }
-        ensures links { IfOk result (λ table. map link_seen table.links ≡ marked_links (site_of (policy_of topo.entry) graph.now) from.0 to.0) }
+    /// The marks of a zone, as far as there are some.
+    fn marks(&self, alloc: Global, to: ZoneId) -> Result<MarkTable, NoMemory>
+        ensures crossings { IfOk result (λ table. map crossing_seen table.crossings ≡ crossings_in (get nat_cmp self.now.ends to.0)) }
+        ensures links { IfOk result (λ table. map link_seen table.links ≡ links_in (get nat_cmp self.now.ends to.0)) }
     {
         match self.ends.get(&to.0) {
             Some(marks) => marks.table(alloc),
-            None => plain_marks(alloc, topo, graph, from, to),
+            None => Marks::new(alloc).table(alloc),
         }
     }
 
-    /// The table of a zone.
-    fn table(
-        &self,
-        alloc: Global,
-        topo: Topo<'_>,
-        graph: &ZoneGraph,
-        from: ZoneId,
-        to: ZoneId,
-    ) -> Result<PairMarks, NoMemory>
-        requires graph { IsGraphOf (policy_of topo) graph.now }
-        requires all { AreAll (site_of (policy_of topo) graph.now) from.0 self.now.ends }
-        ensures { IfOk result (λ table. table_seen table ≡ table_between (site_of (policy_of topo.entry) graph.now) from.0 to) }
+    /// The table from the zone where walks start to another one that was looked for. Marks that are
+    /// missing are those of the first zone itself, to which no walk leads.
+    fn table(&self, alloc: Global, from: ZoneId, to: ZoneId) -> Result<PairMarks, NoMemory>
+        ensures { IfOk result (λ table. table_seen table ≡ table_in self.now.ends from.0 to.0) }
     {
-        let marks = self.marks(alloc, topo, graph, from, to)?;
+        let marks = self.marks(alloc, to)?;
         Ok(PairMarks { from, to, marks })
     }
 }
@@ -118,7 +105,7 @@ fn tables_from(
     finds.add_all(alloc, topo, graph, from, wanted)?;
     let mut tables = Vec::new(alloc);
     for to in wanted {
-        tables.push(finds.table(alloc, topo, graph, from, *to)?)?;
+        tables.push(finds.table(alloc, from, *to)?)?;
     }
     Ok(tables)
 }

@@ -8,7 +8,7 @@ use Rattle.spoc_base.specs.declared.place.Source.{Source}
 use Rattle.policy_model.proofs.AllWalks.{IsIn, in_front, in_back, in_flat_map}
 use Rattle.list_laws.proofs.Members.{each_in}
 use Rattle.list_laws.proofs.Tables.{from_flat_map}
-use Rattle.spoc_ast.specs.Written.{Lexeme, SetText, NoParts, NetworkNamed, HostNamed, PortNamed, GroupNamed, AggregateNamed, AreaNamed, UserNamed, NetworksIn, HostsIn, ZonesIn, Joining, Keeping, Leaving, HostPartText, NatPartText, NatIp, NetPartText, NetIp, NetHost, NetNat, NetIdle, IfPartText, IfIp, IfHardware, IfBindNat, IfIdle, RoutPartText, RoutManaged, RoutModel, RoutRouting, RoutIface, RoutIdle, RuleText, DeclText, NetworkDecl, RouterDecl, GroupDecl, AreaDecl, AggregateDecl, ProtocolDecl, ProtocolGroupDecl, RestrictionDecl, ServiceDecl}
+use Rattle.spoc_ast.specs.Written.{Lexeme, SetText, NoParts, NetworkNamed, HostNamed, PortNamed, GroupNamed, AggregateNamed, AreaNamed, UserNamed, NetworksIn, HostsIn, ZonesIn, Joining, Keeping, Leaving, HostPartText, NatPartText, NatIp, NetPartText, NetIp, NetHost, NetNat, NetIdle, IfPartText, IfIp, IfHardware, IfBindNat, IfVirtual, IfIdle, RoutPartText, RoutManaged, RoutModel, RoutRouting, RoutIface, RoutIdle, RuleText, DeclText, NetworkDecl, RouterDecl, GroupDecl, AreaDecl, AggregateDecl, ProtocolDecl, ProtocolGroupDecl, RestrictionDecl, ServiceDecl}
 use Rattle.policy_decls.specs.Numbers.{prefix_of, is_bad_simple}
 use Rattle.policy_decls.specs.Lookup.{ips_in_net_part, ips_in_nat_part, ips_in_nats, only_one, own_prefix}
 use Rattle.policy_decls.specs.Shapes.{has_one, hosts_in, nats_in, spans_in, is_bad_host, is_unaligned, asked_in, sets_in_rule, sets_in_objects, ask_unaligned, is_bad_prt, ips_in_any_part}
@@ -100,17 +100,6 @@ first_ordered (r ∷ rs) h = let f = ltb-false r.1 r.0 (or_parts (nat_lt r.1 r.0
 host_ordered : (parts : List HostPartText) → is_bad_host parts ≡ false → IsOrdered (range_or_none (slice_get (flat_map spans_in parts) 0))
 host_ordered parts h = first_ordered (flat_map spans_in parts) (or_parts (not (has_one (flat_map spans_in parts))) (list_any (λ r. nat_lt r.1 r.0) (flat_map spans_in parts)) h).1
 
-ip_of_nat : (part : NatPartText) (w : Lexeme) → IsIn w (ips_in_nat_part part) → is_formed_nat part ≡ true → says_prefix w ≡ true
-ip_of_nat (NatIp prefix) w (inl e) f = subst (λ (x : Lexeme). says_prefix x ≡ true) (sym e) f
-ip_of_nat (NatIp prefix) w (inr g) f = absurd g
-
-nat_given : (parts : List NatPartText) → has_one (flat_map ips_in_nat_part parts) ≡ true → list_all is_formed_nat parts ≡ true → is_some (first_prefix (flat_map ips_in_nat_part parts)) ≡ true
-nat_given parts one formed =
-    let w = its_only (flat_map ips_in_nat_part parts) one in
-    let there : IsIn w.0 (flat_map ips_in_nat_part parts) = subst (λ l. IsIn w.0 l) (sym w.1) (inl refl) in
-    let part = from_flat_map ips_in_nat_part w.0 parts there in
-    ap (λ l. is_some (first_prefix l)) w.1 ∙ ip_of_nat part.0 w.0 part.2 (each_in is_formed_nat parts formed part.0 part.1)
-
 module _ (sources : List Source) (parts : List NetPartText) (shape : NetShape parts) (formed : list_all is_formed_net parts ≡ true) where
   abbrev all_ips : List Lexeme
   all_ips = flat_map ips_in_net_part parts ++ flat_map ips_in_nats parts
@@ -127,10 +116,7 @@ module _ (sources : List Source) (parts : List NetPartText) (shape : NetShape pa
       let ips = flat_map ips_in_nat_part ps in
       let aligned = first_aligned ips (none_any is_unaligned ips (λ x i. none_in is_unaligned all_ips shape.aligned x
       (in_back x (flat_map ips_in_net_part parts) (flat_map ips_in_nats parts) (in_flat_map ips_in_nats (NetNat name ps) x parts g i)))) in
-      let lone = none_in (λ nat. not (has_one (flat_map ips_in_nat_part nat))) (flat_map nats_in parts) (or_parts (not (has_one (flat_map ips_in_net_part parts))) _ shape.one).1 ps
-      (in_flat_map nats_in (NetNat name ps) ps parts g (inl refl)) in
-      let f : list_all is_formed_nat ps ≡ true = each_in is_formed_net parts formed (NetNat name ps) g in
-      (w, aligned, nat_given ps (not-false (has_one ips) lone) f)
+      (w, aligned)
   net_part (NetIdle idle) g w = tt
 
   net_parts : All (IsNetPartOf sources) parts → All (IsGoodNetPart sources) parts
@@ -142,6 +128,7 @@ if_part : (sources : List Source) (part : IfPartText) → IsIfPartOf sources par
 if_part sources (IfIp address) w = w
 if_part sources (IfHardware hardware) w = w
 if_part sources (IfBindNat tags) w = w
+if_part sources (IfVirtual parts) w = w
 if_part sources (IfIdle idle) w = w
 
 rout_part : (sources : List Source) (part : RoutPartText) → IsRoutPartOf sources part → IsGoodRoutPart sources part

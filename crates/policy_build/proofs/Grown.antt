@@ -51,6 +51,10 @@ pub if_both : {A E : Type 0} (r : Result A E) {P Q R : A → Type 0} → ((a : A
 if_both (Ok a) f p q = f a p q
 if_both (Err e) f p q = p
 
+pub if_also : {A E : Type 0} (r : Result A E) {P Q : A → Type 0} → ((a : A) → P a → Q a) → IfOk r P → IfOk r Q
+if_also (Ok a) f p = f a p
+if_also (Err e) f p = p
+
 -- a fold over what is left of a list, one item on
 pub fold_more : {A B C D : Type 0} (f : C → B → C) (g : D → List B) (seen : A → D) (xs : List A) (i : ℕ) (d : A) → i < length xs → (old now all : C) → fold f old (flat_map g (map seen (drop i xs))) ≡ all → now ≡ fold f old (g (seen (get_or xs i d)))
     → fold f now (flat_map g (map seen (drop (i + 1) xs))) ≡ all

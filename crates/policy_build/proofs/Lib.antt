@@ -13,3 +13,4 @@ pub mod RowLists
 pub mod Faultless
 pub mod Placed
 pub mod Parted
+pub mod Shared

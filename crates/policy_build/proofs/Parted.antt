@@ -1,5 +1,5 @@
 -- The lists of a policy in memory are those of the policy that is said.
-use Rattle.std.proofs.Common.{◌≡◌, ◌∙◌, refl, sym, ap, subst, ℕ, ◌<◌, eqb, List, length, map, filter, get_or}
+use Rattle.std.proofs.Common.{◌≡◌, ◌∙◌, refl, sym, ap, subst, ℕ, ◌<◌, eqb, List, length, map, filter, take, drop, get_or}
 use Rattle.std.specs.List.{All}
 use Rattle.std.proofs.Math.ListN as whole
 use Rattle.std.proofs.lemmas.List.{length-map, get_or-map}
@@ -8,10 +8,10 @@ use Rattle.policy_model.specs.Lists.{numbers_below}
 use Rattle.policy_model.specs.Policy as plain
 use Rattle.policy_model.specs.Policy.{Policy, no_iface}
 use Rattle.topology.specs.Seen.{net_seen, host_seen, router_seen, iface_seen, tag_seen, restriction_seen, group_seen, area_seen, aggregate_seen, service_seen, plain_of}
-use Rattle.topology.specs.Sound.{IsSound}
+use Rattle.topology.specs.Sound.{declared_count, IsSound}
 use Rattle.spoc_base.specs.declared.place.Kind.TheVariants as kind
 use Rattle.topology.specs.Texts.{IsCalled}
-use Rattle.topology.specs.Kept.{HoldsRows, ifaces_of, ifaces_at, IsIfaceWritten, IsWritten, IsKept}
+use Rattle.topology.specs.Kept.{HoldsRows, ifaces_of, ifaces_at, IsIfaceWritten, IsImpliedWritten, IsWritten, IsKept}
 use Rattle.topology.specs.declared.items.Network.{Network}
 use Rattle.topology.specs.declared.items.Router.{Router}
 use Rattle.topology.specs.declared.items.Iface.{Iface}
@@ -108,7 +108,8 @@ pub record AreCalled (parts : Parts) (p : Policy) : Type 0 where
   pub routers : All (λ x. IsCalled kind.Router parts.sources.now x.name) parts.routers.now
   pub ifaces : All (IsIfaceWritten parts.sources.now p) parts.ifaces.now
   pub tags : All (λ x. IsCalled kind.Tag parts.sources.now x.name) parts.tags.now
-  pub restrictions : All (λ x. IsCalled kind.Restriction parts.sources.now x.name) parts.restrictions.now
+  pub restrictions : All (λ x. IsCalled kind.Restriction parts.sources.now x.name) (take (declared_count p) parts.restrictions.now)
+  pub implied : All (IsImpliedWritten parts.sources.now p) (drop (declared_count p) parts.restrictions.now)
   pub groups : All (λ x. IsCalled kind.Group parts.sources.now x.name) parts.groups.now
   pub areas : All (λ x. IsCalled kind.Area parts.sources.now x.name) parts.areas.now
   pub aggregates : All (λ x. IsCalled kind.Aggregate parts.sources.now x.name) parts.aggregates.now
@@ -122,7 +123,8 @@ is_written parts p e c =
       routers = c.routers;
       ifaces = subst (λ q. All (IsIfaceWritten parts.sources.now q) parts.ifaces.now) (sym e) c.ifaces;
       tags = c.tags;
-      restrictions = c.restrictions;
+      restrictions = subst (λ q. All (λ x. IsCalled kind.Restriction parts.sources.now x.name) (take (declared_count q) parts.restrictions.now)) (sym e) c.restrictions;
+      implied = subst (λ q. All (IsImpliedWritten parts.sources.now q) (drop (declared_count q) parts.restrictions.now)) (sym e) c.implied;
       groups = c.groups;
       areas = c.areas;
       aggregates = c.aggregates;

@@ -6,7 +6,7 @@ use Rattle.spoc_base.specs.declared.place.Source.{Source}
 use Rattle.spoc_base.specs.declared.place.Named.{Named}
 use Rattle.policy_model.specs.Policy.{net_of, router_of}
 use Rattle.topology.specs.Texts.{IsIfaceCalled}
-use Rattle.spoc_ast.specs.Written.{Lexeme, IfPartText, IfIp, IfHardware, IfBindNat, IfIdle, RoutPartText, RoutManaged, RoutModel, RoutRouting, RoutIface, RoutIdle, DeclText}
+use Rattle.spoc_ast.specs.Written.{Lexeme, IfPartText, IfIp, IfHardware, IfBindNat, IfVirtual, IfIdle, RoutPartText, RoutManaged, RoutModel, RoutRouting, RoutIface, RoutIdle, DeclText}
 use Rattle.policy_decls.specs.Lookup.{hardware_in, ifaces_in_part}
 use Rattle.policy_decls.specs.Names.{RouterName, NetworkName}
 use Rattle.policy_decls.specs.Said.{number_of_name, iface_said, policy_said}
@@ -27,6 +27,7 @@ hardware_word sources [] w h e = absurd (cc)
 hardware_word sources (IfIp v ∷ parts) w h e = hardware_word sources parts w (All-tail (IsGoodIfPart sources) (IfIp v) parts h) e
 hardware_word sources (IfHardware v ∷ parts) w h e = let same : v ≡ w = cc in subst (IsWordOf sources) same (All-head (IsGoodIfPart sources) (IfHardware v) parts h)
 hardware_word sources (IfBindNat v ∷ parts) w h e = hardware_word sources parts w (All-tail (IsGoodIfPart sources) (IfBindNat v) parts h) e
+hardware_word sources (IfVirtual v ∷ parts) w h e = hardware_word sources parts w (All-tail (IsGoodIfPart sources) (IfVirtual v) parts h) e
 hardware_word sources (IfIdle v ∷ parts) w h e = hardware_word sources parts w (All-tail (IsGoodIfPart sources) (IfIdle v) parts h) e
 
 -- an interface at the numbers of its router and its network is called by their names

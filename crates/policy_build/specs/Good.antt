@@ -1,9 +1,9 @@
 -- What declarations without a fault give to those that build the policy.
-use Rattle.std.specs.Prelude.{◌≡◌, ◌≤◌, Bool, true, List, flat_map, slice_get, Option, Some, None, is_some, option_and_then}
+use Rattle.std.specs.Prelude.{◌≡◌, ◌≤◌, Bool, true, List, flat_map, slice_get, Option, Some, None, option_and_then}
 use Rattle.std.specs.List.{All}
 use Rattle.spoc_base.specs.Address.{Cidr, Interval}
 use Rattle.spoc_base.specs.declared.place.Source.{Source}
-use Rattle.spoc_ast.specs.Written.{SetText, NetPartText, NetIp, NetHost, NetNat, NetIdle, IfPartText, IfIp, IfHardware, IfBindNat, IfIdle, RoutPartText, RoutManaged, RoutModel, RoutRouting, RoutIface, RoutIdle, RuleText, DeclText, NetworkDecl, RouterDecl, GroupDecl, AreaDecl, AggregateDecl, ProtocolDecl, ProtocolGroupDecl, RestrictionDecl, ServiceDecl}
+use Rattle.spoc_ast.specs.Written.{SetText, NetPartText, NetIp, NetHost, NetNat, NetIdle, IfPartText, IfIp, IfHardware, IfBindNat, IfVirtual, IfIdle, RoutPartText, RoutManaged, RoutModel, RoutRouting, RoutIface, RoutIdle, RuleText, DeclText, NetworkDecl, RouterDecl, GroupDecl, AreaDecl, AggregateDecl, ProtocolDecl, ProtocolGroupDecl, RestrictionDecl, ServiceDecl}
 use Rattle.policy_decls.specs.Lookup.{own_prefix, ips_in_nat_part}
 use Rattle.policy_decls.specs.Shapes.{spans_in, ips_in_any_part}
 use Rattle.policy_decls.specs.Said.{first_prefix, range_or_none}
@@ -22,13 +22,14 @@ IsOrdered r = r.first ≤ r.last
 abbrev pub IsGoodNetPart : List Source → NetPartText → Type 0
 IsGoodNetPart sources (NetIp prefix) = Unit {0}
 IsGoodNetPart sources (NetHost name parts) = IsWordOf sources name × IsOrdered (range_or_none (slice_get (flat_map spans_in parts) 0))
-IsGoodNetPart sources (NetNat name parts) = IsWordOf sources name × IsAligned (first_prefix (flat_map ips_in_nat_part parts)) × (is_some (first_prefix (flat_map ips_in_nat_part parts)) ≡ true)
+IsGoodNetPart sources (NetNat name parts) = IsWordOf sources name × IsAligned (first_prefix (flat_map ips_in_nat_part parts))
 IsGoodNetPart sources (NetIdle idle) = Unit {0}
 
 abbrev pub IsGoodIfPart : List Source → IfPartText → Type 0
 IsGoodIfPart sources (IfIp address) = Unit {0}
 IsGoodIfPart sources (IfHardware hardware) = IsWordOf sources hardware
 IsGoodIfPart sources (IfBindNat tags) = Unit {0}
+IsGoodIfPart sources (IfVirtual parts) = Unit {0}
 IsGoodIfPart sources (IfIdle idle) = Unit {0}
 
 abbrev pub IsGoodRoutPart : List Source → RoutPartText → Type 0
@@ -45,8 +46,7 @@ asks_aligned_objects (Some e) = asks_aligned e
 abbrev pub IsGoodRule : RuleText → Type 0
 IsGoodRule rule = (asks_aligned rule.src ≡ true) × (asks_aligned rule.dst ≡ true) × (are_fair rule.prts ≡ true)
 
--- Its words are parts of the sources, no prefix has a host bit, each translation has a prefix, a host's range isn't reversed, and no number of a
--- protocol is out of range.
+-- Its words are parts of the sources, no prefix has a host bit, a host's range isn't reversed, and no number of a protocol is out of range.
 abbrev pub IsGood : List Source → DeclText → Type 0
 IsGood sources (NetworkDecl name desc parts) = IsWordOf sources name × IsAligned (own_prefix parts) × All (IsGoodNetPart sources) parts
 IsGood sources (RouterDecl name desc parts) = IsWordOf sources name × All (IsGoodRoutPart sources) parts

@@ -8,7 +8,7 @@ use Rattle.spoc_ast.specs.Written.{Lexeme, IfPartText, RoutPartText, RoutManaged
 use Rattle.policy_decls.specs.Numbers.{address_of}
 use Rattle.policy_decls.specs.Names.{RouterName, NetworkName}
 use Rattle.policy_decls.specs.Lookup.{addresses_in, hardware_in, binds_in}
-use Rattle.policy_decls.specs.Said.{number_of_name, number_of_tag, text_or_none, policy_said}
+use Rattle.policy_decls.specs.Said.{number_of_name, number_of_tag, shared_in, text_or_none, policy_said}
 use Rattle.topology.specs.Kept.{IsIfaceWritten}
 use Rattle.topology.specs.declared.items.Iface.{Iface}
 
@@ -50,6 +50,7 @@ iface_in decls router net parts = record {
   router = number_of_name decls RouterName router;
   net = number_of_name decls NetworkName net;
   addr = option_and_then (λ w. address_of w.text) (slice_get (flat_map addresses_in parts) 0);
+  shared = option_and_then (λ w. address_of w.text) (slice_get (flat_map shared_in parts) 0);
   hardware = text_or_none (slice_get (flat_map hardware_in parts) 0);
   binds = flat_map (map (number_of_tag decls)) (flat_map binds_in parts);
 }

@@ -9,3 +9,4 @@ pub mod Tags
 pub mod Services
 pub mod Rows
 pub mod Buildable
+pub mod Sharing

@@ -5,7 +5,7 @@ use Rattle.spoc_ast.specs.Written.{RuleText, DeclText, NetworkDecl, RouterDecl, 
 use Rattle.policy_decls.specs.Said.{expr_in, boxes_in}
 
 abbrev pub rule_at : List DeclText → ℕ → RuleText → plain.Rule
-rule_at decls depth rule = record { src = expr_in decls rule.src; dst = expr_in decls rule.dst; boxes = flat_map (boxes_in decls depth) rule.prts }
+rule_at decls depth rule = record { deny = rule.deny; src = expr_in decls rule.src; dst = expr_in decls rule.dst; boxes = flat_map (boxes_in decls depth) rule.prts }
 
 abbrev pub services_at : List DeclText → ℕ → DeclText → List plain.Service
 services_at decls depth (NetworkDecl name desc parts) = []

@@ -3,7 +3,7 @@ use Rattle.std.specs.Prelude.{◌≡◌, List}
 use Rattle.std.specs.List.{All}
 use Rattle.spoc_base.specs.declared.place.Source.{Source}
 use Rattle.topology.specs.Texts.{LiesIn, text_at}
-use Rattle.spoc_ast.specs.Written.{Lexeme, NetPartText, NetIp, NetHost, NetNat, NetIdle, IfPartText, IfIp, IfHardware, IfBindNat, IfIdle, RoutPartText, RoutManaged, RoutModel, RoutRouting, RoutIface, RoutIdle, DeclText, NetworkDecl, RouterDecl, GroupDecl, AreaDecl, AggregateDecl, ProtocolDecl, ProtocolGroupDecl, RestrictionDecl, ServiceDecl}
+use Rattle.spoc_ast.specs.Written.{Lexeme, NetPartText, NetIp, NetHost, NetNat, NetIdle, IfPartText, IfIp, IfHardware, IfBindNat, IfVirtual, IfIdle, RoutPartText, RoutManaged, RoutModel, RoutRouting, RoutIface, RoutIdle, DeclText, NetworkDecl, RouterDecl, GroupDecl, AreaDecl, AggregateDecl, ProtocolDecl, ProtocolGroupDecl, RestrictionDecl, ServiceDecl}
 
 -- the word stands in the sources where its span tells
 pub record IsWordOf (sources : List Source) (w : Lexeme) : Type 0 where
@@ -22,6 +22,7 @@ abbrev pub IsIfPartOf : List Source → IfPartText → Type 0
 IsIfPartOf sources (IfIp address) = Unit {0}
 IsIfPartOf sources (IfHardware hardware) = IsWordOf sources hardware
 IsIfPartOf sources (IfBindNat tags) = Unit {0}
+IsIfPartOf sources (IfVirtual parts) = Unit {0}
 IsIfPartOf sources (IfIdle idle) = Unit {0}
 
 -- the interfaces of a router

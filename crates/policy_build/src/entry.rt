@@ -3,6 +3,7 @@ ghost use Rattle.spoc_ast.specs.Seen.{decl_seen, file_seen};
 ghost use Rattle.policy_decls.specs.Names.{declared_names};
 ghost use Rattle.policy_decls.specs.Faults.{fault_of};
 ghost use Rattle.policy_decls.specs.Formed.{are_formed};
+ghost use Rattle.policy_decls.specs.Spelled.{are_spelled};
 ghost use Rattle.policy_decls.specs.Said.{policy_said};
 ghost use Rattle.policy_names.specs.Seen.{decls_of, mention_seen};
 ghost use Rattle.topology.specs.View.{policy_of, sources_of};
@@ -20,7 +21,8 @@ use std::alloc::Global;
 use topology::Topo;
 
 /// The policy that the declarations of the files say, in the arena. The table has the names that
-/// they declare, they have no fault, and their words stand in the sources. An error comes from want
+/// they declare, they have no fault, their names and hardware are words, and their words stand in
+/// the sources. An error comes from want
 /// of memory alone, also where a rule has more than 4,000,000 boxes or 2^32 names are declared.
 pub fn build<'a>(
     alloc: Global,
@@ -32,6 +34,7 @@ pub fn build<'a>(
     requires named { table.now ≡ declared_names (decls_of files.now) }
     requires faultless { fault_of (decls_of files.now) ≡ None }
     requires formed { IsTrue (are_formed (decls_of files.now)) }
+    requires spelled { IsTrue (are_spelled (decls_of files.now)) }
     requires words { AreWordsOf sources.now (decls_of files.now) }
     ensures policy { IfOk result (λ topo. policy_of topo ≡ policy_said (decls_of files.now)) }
     ensures sources { IfOk result (λ topo. sources_of topo ≡ sources.entry.now) }

@@ -1,9 +1,10 @@
 ghost use Rattle.std.specs.Prelude.{◌≡◌, ◌++◌, [], ◌∷◌, map, flat_map, slice_get, option_map, option_and_then, IfOk, OnOk};
 ghost use Rattle.std.specs.List.{All};
-ghost use Rattle.spoc_ast.specs.Seen.{word_seen, if_part_seen, rout_part_seen, decl_seen};
+ghost use Rattle.spoc_ast.specs.Seen.{word_seen, virt_part_seen, if_part_seen, rout_part_seen, decl_seen};
 ghost use Rattle.policy_decls.specs.Numbers.{address_of};
 ghost use Rattle.policy_decls.specs.Lookup.{addresses_in, hardware_in, binds_in, ifaces_in};
-ghost use Rattle.policy_decls.specs.Said.{number_of_tag, text_or_none, iface_said, policy_said};
+ghost use Rattle.policy_decls.specs.Shapes.{ips_in_virtual};
+ghost use Rattle.policy_decls.specs.Said.{number_of_tag, shared_in, text_or_none, iface_said, policy_said};
 ghost use Rattle.topology.specs.Texts.{LiesIn, text_at};
 ghost use Rattle.topology.specs.Seen.{iface_seen};
 ghost use Rattle.policy_build.specs.Views.{decls_of, sources_in};
@@ -16,7 +17,7 @@ use bumpalo::Bump;
 use bumpalo::collections::into_bump_slice;
 use policy_names::NameKind;
 use policy_numbers::address;
-use spoc_ast::{Decl, IfPart, PortName, RoutPart, Word};
+use spoc_ast::{Decl, IfPart, PortName, RoutPart, VirtPart, Word};
 use spoc_base::{Addr, NetId, NoMemory, RouterId, Span, TagId};
 use topology::Iface;
 
@@ -116,6 +117,7 @@ fn iface<'a>(
         router: RouterId(scope.number(NameKind::Router, router)),
         net: NetId(scope.number(NameKind::Network, net)),
         addr: first_address(parts),
+        shared: shared_address(parts),
         hardware: hardware(scope, router, parts),
         binds,
     })
@@ -135,6 +137,47 @@ fn first_ip<'a>(parts: &[IfPart<'a>]) -> Option<Word<'a>>
 {
     for part in parts {
         if let IfPart::Ip(word) = part {
+            return Some(*word);
+        }
+    }
+    None
+}
+
+// The address that the interface shares with others.
+fn shared_address(parts: &[IfPart<'_>]) -> Option<Addr>
+    ensures { option_map (λ a. a.0) result ≡ option_and_then (λ w. address_of w.text) (slice_get (flat_map shared_in (map if_part_seen parts.now)) 0) }
+{
+    match first_shared(parts) {
+        Some(word) => address(word.text),
+        None => None,
+    }
+}
+
+fn first_shared<'a>(parts: &[IfPart<'a>]) -> Option<Word<'a>>
+    ensures { option_map word_seen result ≡ slice_get (flat_map shared_in (map if_part_seen parts.now)) 0 }
+{
+    for part in parts {
+        if let Some(word) = shared_of(part) {
+            return Some(word);
+        }
+    }
+    None
+}
+
+fn shared_of<'a>(part: &IfPart<'a>) -> Option<Word<'a>>
+    ensures { option_map word_seen result ≡ slice_get (shared_in (if_part_seen part.now)) 0 }
+{
+    match part {
+        IfPart::Virtual(parts) => first_virtual(parts),
+        _ => None,
+    }
+}
+
+fn first_virtual<'a>(parts: &[VirtPart<'a>]) -> Option<Word<'a>>
+    ensures { option_map word_seen result ≡ slice_get (flat_map ips_in_virtual (map virt_part_seen parts.now)) 0 }
+{
+    for part in parts {
+        if let VirtPart::Ip(word) = part {
             return Some(*word);
         }
     }

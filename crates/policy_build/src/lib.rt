@@ -19,6 +19,8 @@ mod routers;
 mod scope;
 mod services;
 mod sets;
+mod shared_keys;
+mod sharing;
 mod sorting;
 mod tags;
 mod texts;

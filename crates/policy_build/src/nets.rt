@@ -103,8 +103,11 @@ fn only(ips: &[Word<'_>]) -> Option<Prefix>
     }
 }
 
-// The translations, in order.
-fn nats<'a>(scope: Scope<'a, '_>, parts: &[NetPart<'a>]) -> Result<&'a [(TagId, Prefix)], NoMemory>
+// The translations, in order. A tag that hides the network has no prefix.
+fn nats<'a>(
+    scope: Scope<'a, '_>,
+    parts: &[NetPart<'a>],
+) -> Result<&'a [(TagId, Option<Prefix>)], NoMemory>
     requires { All (IsGoodNetPart (sources_in scope)) (map net_part_seen parts.now) }
     ensures { IfOk result (λ nats. map nat_seen nats.now ≡ flat_map (nats_said (decls_of scope.entry)) (map net_part_seen parts.now)) }
 {
@@ -118,7 +121,7 @@ fn nats<'a>(scope: Scope<'a, '_>, parts: &[NetPart<'a>]) -> Result<&'a [(TagId, 
 fn add_nat<'a>(
     scope: Scope<'a, '_>,
     part: &NetPart<'a>,
-    found: &mut Vec<(TagId, Prefix), &'a Bump>,
+    found: &mut Vec<(TagId, Option<Prefix>), &'a Bump>,
 ) -> Result<(), NoMemory>
     requires { IsGoodNetPart (sources_in scope) (net_part_seen part.now) }
     ensures { OnOk result (map nat_seen found.new.items ≡ map nat_seen found.old.items ++ nats_said (decls_of scope.entry) (net_part_seen part.now)) }
@@ -127,7 +130,7 @@ fn add_nat<'a>(
         return Ok(());
     };
     let tag = TagId(scope.tag(*name));
-    let Ok(()) = found.push((tag, or_any(prefix_in(first_ip(parts))))) else {
+    let Ok(()) = found.push((tag, prefix_in(first_ip(parts)))) else {
         return Err(NoMemory);
     };
     Ok(())
@@ -136,10 +139,10 @@ fn add_nat<'a>(
 fn first_ip<'a>(parts: &[NatPart<'a>]) -> Option<Word<'a>>
     ensures { option_map word_seen result ≡ slice_get (flat_map ips_in_nat_part (map nat_part_seen parts.now)) 0 }
 {
-    if parts.is_empty() {
-        return None;
+    for part in parts {
+        if let NatPart::Ip(word) = part {
+            return Some(*word);
+        }
     }
-    match parts[0] {
-        NatPart::Ip(word) => Some(word),
-    }
+    None
 }

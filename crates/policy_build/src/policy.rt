@@ -9,7 +9,7 @@ ghost use Rattle.policy_build.specs.Views.{decls_of, sources_in};
 ghost use Rattle.policy_build.specs.Fair.{declares_fair};
 ghost use Rattle.policy_build.specs.Good.{IsGood};
 ghost use Rattle.policy_build.specs.Ifaces.{IsPlaced};
-ghost use Rattle.policy_build.specs.Rows.{owned_by};
+ghost use Rattle.policy_build.specs.Rows.{owned_by, all_owned};
 
 use crate::aggregates::aggregates;
 use crate::areas::areas;
@@ -41,7 +41,6 @@ pub(crate) fn policy<'a>(scope: Scope<'a, '_>) -> Result<Topo<'a>, NoMemory>
     let routers = routers(scope)?;
     let ifaces = ifaces(scope)?;
     let tags = tags(scope)?;
-    let restrictions = restrictions(scope)?;
     let groups = groups(scope)?;
     let areas = areas(scope)?;
     let aggregates = aggregates(scope)?;
@@ -50,6 +49,7 @@ pub(crate) fn policy<'a>(scope: Scope<'a, '_>) -> Result<Topo<'a>, NoMemory>
     let net_count = nets.len();
     let at_router = at_routers(scope, ifaces, router_count)?;
     let at_net = at_nets(scope, ifaces, net_count)?;
+    let restrictions = restrictions(scope, ifaces, at_net.ids)?;
     let parts = Parts {
         sources: scope.sources,
         nets,
@@ -98,7 +98,8 @@ fn at_nets<'a>(
     count: usize,
 ) -> Result<IfRows<'a>, NoMemory>
     requires { All (λ i. i.net.0 < count) ifaces.now }
-    ensures { IfOk result (λ rows. HoldsRows rows count (owned_by (map (λ i. i.net.0) ifaces.now))) }
+    ensures rows { IfOk result (λ rows. HoldsRows rows count (owned_by (map (λ i. i.net.0) ifaces.now))) }
+    ensures whole { IfOk result (λ rows. map (λ i. i.0) rows.ids.now ≡ all_owned (map (λ i. i.net.0) ifaces.now) count) }
 {
     let owners = net_numbers(scope.alloc, ifaces)?;
     rows(scope.alloc, scope.arena, &owners, count)

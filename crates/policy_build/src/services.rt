@@ -121,5 +121,10 @@ fn rule_of<'a>(by: Expander<'a, '_>, rule: &RuleTree<'a>) -> Result<Rule<'a>, No
     let src = union(by.scope, &rule.src)?;
     let dst = union(by.scope, &rule.dst)?;
     let prts = by.boxes(rule.prts)?;
-    Ok(Rule { src, dst, prts })
+    Ok(Rule {
+        deny: rule.deny,
+        src,
+        dst,
+        prts,
+    })
 }

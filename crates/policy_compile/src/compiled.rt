@@ -19,8 +19,7 @@ use policy_meaning::{Findings, found};
 use spoc_base::{Refusal, Row};
 use std::alloc::Global;
 use topology::Topo;
-use zone_graph::ZoneGraph;
-use zone_laws::zones_are_counted;
+use zone_graph::{ZoneGraph, zones_are_counted};
 
 /// What was compiled, in numbers.
 #[derive(Clone, Copy, Debug, PartialEq, Eq)]

@@ -2,7 +2,7 @@
 use Rattle.std.specs.Prelude.{Bool, true, false, not, ◌&&◌, List, Option, Some, None, is_some}
 use Rattle.std.specs.List.{list_all}
 use Rattle.policy_model.specs.Lists.{is_nothing}
-use Rattle.spoc_ast.specs.Written.{Lexeme, SetText, NoParts, NetworkNamed, HostNamed, PortNamed, GroupNamed, AggregateNamed, AreaNamed, UserNamed, NetworksIn, HostsIn, ZonesIn, Joining, Keeping, Leaving, HostPartText, HostIp, HostRange, HostIdle, NatPartText, NatIp, NetPartText, NetIp, NetHost, NetNat, NetIdle, IfPartText, IfIp, IfHardware, IfBindNat, IfIdle, RoutPartText, RoutManaged, RoutModel, RoutRouting, RoutIface, RoutIdle, AreaPartText, AreaAnchor, AreaBorder, AreaIdle, AnyPartText, AnyLink, AnyIp, AnyIdle, SimpleText, SimpleIp, SimpleTcp, SimpleUdp, SimpleIcmp, SimpleProto, PrtText, PrtSimple, PrtProtocol, PrtGroup, RuleText, DeclText, NetworkDecl, RouterDecl, GroupDecl, AreaDecl, AggregateDecl, ProtocolDecl, ProtocolGroupDecl, RestrictionDecl, ServiceDecl}
+use Rattle.spoc_ast.specs.Written.{Lexeme, SetText, NoParts, NetworkNamed, HostNamed, PortNamed, GroupNamed, AggregateNamed, AreaNamed, UserNamed, NetworksIn, HostsIn, ZonesIn, Joining, Keeping, Leaving, HostPartText, HostIp, HostRange, HostIdle, NatPartText, NatIp, NatHidden, NetPartText, NetIp, NetHost, NetNat, NetIdle, VirtPartText, VirtIp, VirtKind, VirtId, IfPartText, IfIp, IfHardware, IfBindNat, IfVirtual, IfIdle, RoutPartText, RoutManaged, RoutModel, RoutRouting, RoutIface, RoutIdle, AreaPartText, AreaAnchor, AreaBorder, AreaIdle, AnyPartText, AnyLink, AnyIp, AnyIdle, SimpleText, SimpleIp, SimpleTcp, SimpleUdp, SimpleIcmp, SimpleProto, PrtText, PrtSimple, PrtProtocol, PrtGroup, RuleText, DeclText, NetworkDecl, RouterDecl, GroupDecl, AreaDecl, AggregateDecl, ProtocolDecl, ProtocolGroupDecl, RestrictionDecl, ServiceDecl}
 use Rattle.policy_decls.specs.Numbers.{address_of, prefix_of, range_of, port_pair_of, icmp_of, number_of, spread}
 
 -- the word is a prefix
@@ -41,6 +41,7 @@ is_formed_host (HostIdle idle) = true
 
 abbrev pub is_formed_nat : NatPartText → Bool
 is_formed_nat (NatIp prefix) = says_prefix prefix
+is_formed_nat NatHidden = true
 
 abbrev pub is_formed_net : NetPartText → Bool
 is_formed_net (NetIp prefix) = says_prefix prefix
@@ -48,10 +49,16 @@ is_formed_net (NetHost name parts) = list_all is_formed_host parts
 is_formed_net (NetNat name parts) = list_all is_formed_nat parts
 is_formed_net (NetIdle idle) = true
 
+abbrev pub is_formed_virtual : VirtPartText → Bool
+is_formed_virtual (VirtIp address) = says_address address
+is_formed_virtual (VirtKind kind) = true
+is_formed_virtual (VirtId number) = is_some (number_of number.text)
+
 abbrev pub is_formed_iface : IfPartText → Bool
 is_formed_iface (IfIp address) = says_address address
 is_formed_iface (IfHardware hardware) = not (is_nothing hardware.text)
 is_formed_iface (IfBindNat tags) = true
+is_formed_iface (IfVirtual parts) = list_all is_formed_virtual parts
 is_formed_iface (IfIdle idle) = true
 
 abbrev pub is_formed_router : RoutPartText → Bool

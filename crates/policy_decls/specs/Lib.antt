@@ -8,3 +8,4 @@ pub mod Limits
 pub mod Said
 pub mod Faults
 pub mod Formed
+pub mod Spelled

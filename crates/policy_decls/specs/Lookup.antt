@@ -3,7 +3,7 @@ use Rattle.std.specs.Prelude.{ℕ, ◌-◌, ◌%◌, Bool, true, false, ◌&&◌
 use Rattle.std.specs.Str.{bytes_eq}
 use Rattle.std.specs.List.{list_any}
 use Rattle.spoc_base.specs.Address.{Cidr, size_of}
-use Rattle.spoc_ast.specs.Written.{Lexeme, PortText, NatPartText, NatIp, NetPartText, NetIp, NetHost, NetNat, NetIdle, IfPartText, IfIp, IfHardware, IfBindNat, IfIdle, RoutPartText, RoutManaged, RoutModel, RoutRouting, RoutIface, RoutIdle, DeclText, NetworkDecl, RouterDecl, GroupDecl, AreaDecl, AggregateDecl, ProtocolDecl, ProtocolGroupDecl, RestrictionDecl, ServiceDecl}
+use Rattle.spoc_ast.specs.Written.{Lexeme, PortText, NatPartText, NatIp, NatHidden, NetPartText, NetIp, NetHost, NetNat, NetIdle, IfPartText, IfIp, IfHardware, IfBindNat, IfVirtual, IfIdle, RoutPartText, RoutManaged, RoutModel, RoutRouting, RoutIface, RoutIdle, DeclText, NetworkDecl, RouterDecl, GroupDecl, AreaDecl, AggregateDecl, ProtocolDecl, ProtocolGroupDecl, RestrictionDecl, ServiceDecl}
 use Rattle.policy_decls.specs.Numbers.{prefix_of}
 
 -- what a test gives for the first item for which it gives something
@@ -44,6 +44,7 @@ ips_in_net_part (NetIdle idle) = []
 
 abbrev pub ips_in_nat_part : NatPartText → List Lexeme
 ips_in_nat_part (NatIp prefix) = prefix ∷ []
+ips_in_nat_part NatHidden = []
 
 abbrev pub ips_in_nats : NetPartText → List Lexeme
 ips_in_nats (NetIp prefix) = []
@@ -144,12 +145,14 @@ abbrev pub addresses_in : IfPartText → List Lexeme
 addresses_in (IfIp address) = address ∷ []
 addresses_in (IfHardware hardware) = []
 addresses_in (IfBindNat tags) = []
+addresses_in (IfVirtual parts) = []
 addresses_in (IfIdle idle) = []
 
 abbrev pub hardware_in : IfPartText → List Lexeme
 hardware_in (IfIp address) = []
 hardware_in (IfHardware hardware) = hardware ∷ []
 hardware_in (IfBindNat tags) = []
+hardware_in (IfVirtual parts) = []
 hardware_in (IfIdle idle) = []
 
 -- the tags of each part that binds some
@@ -157,6 +160,7 @@ abbrev pub binds_in : IfPartText → List (List Lexeme)
 binds_in (IfIp address) = []
 binds_in (IfHardware hardware) = []
 binds_in (IfBindNat tags) = tags ∷ []
+binds_in (IfVirtual parts) = []
 binds_in (IfIdle idle) = []
 
 abbrev pub iface_addresses : IfaceText → List Lexeme

@@ -1,5 +1,5 @@
 -- The policy that declarations say.
-use Rattle.std.specs.Prelude.{ℕ, zero, suc, Bool, List, [], ◌∷◌, map, flat_map, filter, position, slice_get, Option, Some, None, option_map, option_and_then, if◌then◌else◌, codes}
+use Rattle.std.specs.Prelude.{ℕ, zero, suc, Bool, List, [], ◌∷◌, ◌++◌, map, flat_map, filter, position, slice_get, slice_index_or, Option, Some, None, option_map, option_and_then, if◌then◌else◌, codes}
 use Rattle.std.specs.Str.{bytes_eq}
 use Rattle.std.specs.List.{list_any}
 use Rattle.spoc_base.specs.Address.{Cidr, Interval, any_address}
@@ -8,13 +8,14 @@ use Rattle.spoc_base.specs.declared.dialect.Dialect.{Dialect}
 use Rattle.spoc_base.specs.declared.dialect.Dialect.TheVariants.{Ios, Asa}
 use Rattle.policy_model.specs.Lists.{is_nothing, once_each}
 use Rattle.policy_model.specs.Policy as plain
-use Rattle.policy_model.specs.Policy.{Policy, ObjectExpr, NoObjects, OneNet, OneHost, OneIface, OfGroup, OfAggregate, OfArea, OfUser, NetsOf, HostsOf, ZonesOf, Joined, Common, Without}
-use Rattle.spoc_ast.specs.Written.{Lexeme, PortText, SetText, NoParts, NetworkNamed, HostNamed, PortNamed, GroupNamed, AggregateNamed, AreaNamed, UserNamed, NetworksIn, HostsIn, ZonesIn, Joining, Keeping, Leaving, NetPartText, NetIp, NetHost, NetNat, NetIdle, RoutPartText, PrtText, PrtSimple, PrtProtocol, PrtGroup, RuleText, DeclText, NetworkDecl, RouterDecl, GroupDecl, AreaDecl, AggregateDecl, ProtocolDecl, ProtocolGroupDecl, RestrictionDecl, ServiceDecl}
+use Rattle.policy_model.specs.Walks.{shared_sets}
+use Rattle.policy_model.specs.Policy.{Policy, net_of, router_of, net_at, router_at, ObjectExpr, NoObjects, OneNet, OneHost, OneIface, OfGroup, OfAggregate, OfArea, OfUser, NetsOf, HostsOf, ZonesOf, Joined, Common, Without}
+use Rattle.spoc_ast.specs.Written.{Lexeme, PortText, SetText, NoParts, NetworkNamed, HostNamed, PortNamed, GroupNamed, AggregateNamed, AreaNamed, UserNamed, NetworksIn, HostsIn, ZonesIn, Joining, Keeping, Leaving, NetPartText, NetIp, NetHost, NetNat, NetIdle, IfPartText, IfIp, IfHardware, IfBindNat, IfVirtual, IfIdle, RoutPartText, PrtText, PrtSimple, PrtProtocol, PrtGroup, RuleText, DeclText, NetworkDecl, RouterDecl, GroupDecl, AreaDecl, AggregateDecl, ProtocolDecl, ProtocolGroupDecl, RestrictionDecl, ServiceDecl}
 use Rattle.policy_decls.specs.Numbers.{address_of, prefix_of, box_in}
 use Rattle.policy_decls.specs.Names.{NameKind, NetworkName, HostName, TagName, RouterName, IfaceName, GroupName, AreaName, AggregateName, same_kind, Mention, mention, mention_port, declared_names}
 use Rattle.policy_decls.specs.Uses.{names_it}
 use Rattle.policy_decls.specs.Lookup.{first_given, or_nothing, own_prefix, ips_in_nat_part, is_managed_router, models_in, routings_in, IfaceText, declared_ifaces, iface_addresses, iface_hardware, iface_binds}
-use Rattle.policy_decls.specs.Shapes.{spans_in, interval_in, anchors_in, borders_in, links_in, ips_in_any_part}
+use Rattle.policy_decls.specs.Shapes.{ips_in_virtual, spans_in, interval_in, anchors_in, borders_in, links_in, ips_in_any_part}
 
 -- ---- numbers: each kind from 0 in the order of declarations, tags in that of each one's first
 
@@ -156,7 +157,7 @@ expr_or_none decls None = NoObjects
 expr_or_none decls (Some e) = expr_in decls e
 
 abbrev pub rule_in : List DeclText → RuleText → plain.Rule
-rule_in decls rule = record { src = expr_in decls rule.src; dst = expr_in decls rule.dst; boxes = flat_map (boxes_in decls most_nested) rule.prts }
+rule_in decls rule = record { deny = rule.deny; src = expr_in decls rule.src; dst = expr_in decls rule.dst; boxes = flat_map (boxes_in decls most_nested) rule.prts }
 
 abbrev pub adds_of : List DeclText → DeclText → Adds
 adds_of decls (NetworkDecl name desc parts) = record {
@@ -244,27 +245,72 @@ abbrev pub text_or_none : Option Lexeme → List ℕ
 text_or_none None = []
 text_or_none (Some w) = w.text
 
+-- the words of the addresses that a part of an interface shares with others
+abbrev pub shared_in : IfPartText → List Lexeme
+shared_in (IfIp address) = []
+shared_in (IfHardware hardware) = []
+shared_in (IfBindNat tags) = []
+shared_in (IfVirtual parts) = flat_map ips_in_virtual parts
+shared_in (IfIdle idle) = []
+
+abbrev pub iface_shared : IfaceText → List Lexeme
+iface_shared iface = flat_map shared_in iface.parts
+
 -- an interface, at the numbers of its router and its network
 abbrev pub iface_said : List DeclText → IfaceText → plain.Iface
 iface_said decls i = record {
   router = number_of_name decls RouterName i.router;
   net = number_of_name decls NetworkName i.net;
   addr = option_and_then (λ w. address_of w.text) (slice_get (iface_addresses i) 0);
+  shared = option_and_then (λ w. address_of w.text) (slice_get (iface_shared i) 0);
   hardware = text_or_none (slice_get (iface_hardware i) 0);
   binds = flat_map (map (number_of_tag decls)) (iface_binds i);
 }
 
--- The policy that declarations say, where none of them has a fault.
-abbrev pub policy_said : List DeclText → Policy
-policy_said decls = record {
+-- the restrictions that are declared
+abbrev pub restrictions_declared : List DeclText → List plain.Restriction
+restrictions_declared decls = flat_map (λ d. (adds_of decls d).restrictions) decls
+
+-- What declarations say, with the restrictions that are declared alone.
+abbrev pub policy_declared : List DeclText → Policy
+policy_declared decls = record {
   nets = flat_map (λ d. (adds_of decls d).nets) decls;
   hosts = flat_map (λ d. (adds_of decls d).hosts) decls;
   routers = flat_map (λ d. (adds_of decls d).routers) decls;
   ifaces = map (iface_said decls) (declared_ifaces decls);
   tags = map (λ name. record { name = name.text }) (tag_names decls);
-  restrictions = flat_map (λ d. (adds_of decls d).restrictions) decls;
+  restrictions = restrictions_declared decls;
   groups = flat_map (λ d. (adds_of decls d).groups) decls;
   areas = flat_map (λ d. (adds_of decls d).areas) decls;
   aggregates = flat_map (λ d. (adds_of decls d).aggregates) decls;
   services = flat_map (λ d. (adds_of decls d).services) decls;
 }
+
+-- the name of an interface: its router's, and behind a dot its network's
+abbrev pub iface_name : Policy → ℕ → List ℕ
+iface_name p i = (router_of p (router_at p i)).name ++ (codes "." ++ (net_of p (net_at p i)).name)
+
+-- interfaces that share an address, of which a walk may use one at most, under the name of the least of them
+abbrev pub implied_by : Policy → List ℕ → plain.Restriction
+implied_by p members = record { name = iface_name p (slice_index_or members 0 0); members = members }
+
+-- the restrictions that shared addresses imply
+abbrev pub restrictions_implied : Policy → List plain.Restriction
+restrictions_implied p = map (implied_by p) (shared_sets p)
+
+-- The policy that declarations say, where none of them has a fault: behind the restrictions that are declared stand those that shared addresses imply.
+abbrev pub policy_said : List DeclText → Policy
+policy_said decls =
+    let p = policy_declared decls in
+    record {
+      nets = p.nets;
+      hosts = p.hosts;
+      routers = p.routers;
+      ifaces = p.ifaces;
+      tags = p.tags;
+      restrictions = p.restrictions ++ restrictions_implied p;
+      groups = p.groups;
+      areas = p.areas;
+      aggregates = p.aggregates;
+      services = p.services;
+    }

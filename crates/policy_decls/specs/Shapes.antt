@@ -4,9 +4,9 @@ use Rattle.std.specs.Str.{bytes_eq}
 use Rattle.std.specs.List.{list_any}
 use Rattle.spoc_base.specs.Address.{Cidr, Interval, addresses, interval_covers, prefix_holds}
 use Rattle.policy_model.specs.Lists.{is_nothing}
-use Rattle.spoc_ast.specs.Written.{Lexeme, PortText, SetText, NoParts, NetworkNamed, HostNamed, PortNamed, GroupNamed, AggregateNamed, AreaNamed, UserNamed, NetworksIn, HostsIn, ZonesIn, Joining, Keeping, Leaving, HostPartText, HostIp, HostRange, HostIdle, NatPartText, NetPartText, NetIp, NetHost, NetNat, NetIdle, RoutPartText, AreaPartText, AreaAnchor, AreaBorder, AreaIdle, AnyPartText, AnyLink, AnyIp, AnyIdle, PrtText, PrtSimple, PrtProtocol, PrtGroup, RuleText, DeclText, NetworkDecl, RouterDecl, GroupDecl, AreaDecl, AggregateDecl, ProtocolDecl, ProtocolGroupDecl, RestrictionDecl, ServiceDecl}
+use Rattle.spoc_ast.specs.Written.{Lexeme, PortText, SetText, NoParts, NetworkNamed, HostNamed, PortNamed, GroupNamed, AggregateNamed, AreaNamed, UserNamed, NetworksIn, HostsIn, ZonesIn, Joining, Keeping, Leaving, HostPartText, HostIp, HostRange, HostIdle, NatPartText, NetPartText, NetIp, NetHost, NetNat, NetIdle, VirtPartText, VirtIp, VirtKind, VirtId, IfPartText, IfIp, IfHardware, IfBindNat, IfVirtual, IfIdle, RoutPartText, AreaPartText, AreaAnchor, AreaBorder, AreaIdle, AnyPartText, AnyLink, AnyIp, AnyIdle, PrtText, PrtSimple, PrtProtocol, PrtGroup, RuleText, DeclText, NetworkDecl, RouterDecl, GroupDecl, AreaDecl, AggregateDecl, ProtocolDecl, ProtocolGroupDecl, RestrictionDecl, ServiceDecl}
 use Rattle.policy_decls.specs.Numbers.{address_of, prefix_of, range_of, spread, holds_of, is_bad_simple}
-use Rattle.policy_decls.specs.Lookup.{network_parts, ips_in_net_part, ips_in_nat_part, ips_in_nats, own_prefix, aligned, has_host_bit, router_parts, is_managed_router, managed_in, models_in, routings_in, IfaceText, ifaces_in, declared_ifaces, is_port, iface_addresses, iface_hardware, iface_binds}
+use Rattle.policy_decls.specs.Lookup.{network_parts, ips_in_net_part, ips_in_nats, only_one, own_prefix, aligned, has_host_bit, router_parts, is_managed_router, managed_in, models_in, routings_in, IfaceText, ifaces_in, declared_ifaces, is_port, iface_addresses, iface_hardware, iface_binds}
 
 abbrev pub has_two : {A : Type 0} → List A → Bool
 has_two items = nat_lt 1 (length items)
@@ -28,9 +28,9 @@ nats_in (NetHost name parts) = []
 nats_in (NetNat name parts) = parts ∷ []
 nats_in (NetIdle idle) = []
 
--- 1: a network or a translation of it hasn't exactly one prefix
+-- 1: a network hasn't exactly one prefix, or a translation of it hasn't exactly one part, which is a prefix or says that the network is hidden
 abbrev pub lacks_prefix : List NetPartText → Bool
-lacks_prefix parts = not (has_one (flat_map ips_in_net_part parts)) || list_any (λ nat. not (has_one (flat_map ips_in_nat_part nat))) (flat_map nats_in parts)
+lacks_prefix parts = not (has_one (flat_map ips_in_net_part parts)) || list_any (λ nat. not (has_one nat)) (flat_map nats_in parts)
 
 -- the addresses of a part of a host, from the first to the last
 abbrev pub spans_in : HostPartText → List (ℕ × ℕ)
@@ -113,6 +113,43 @@ has_hardware_of i j = i.managed && share (iface_hardware i) (iface_hardware j)
 -- 11: an unmanaged router's interface binds tags, or one tag stands twice in an interface
 abbrev pub is_bad_binding : IfaceText → Bool
 is_bad_binding i = (not i.managed && not (is_nothing (iface_binds i))) || list_any (λ tags. clash_with same_texts [] tags) (iface_binds i)
+
+-- the parts of the address that an interface shares with others
+abbrev pub virtuals_in : IfPartText → List (List VirtPartText)
+virtuals_in (IfIp address) = []
+virtuals_in (IfHardware hardware) = []
+virtuals_in (IfBindNat tags) = []
+virtuals_in (IfVirtual parts) = parts ∷ []
+virtuals_in (IfIdle idle) = []
+
+abbrev pub iface_virtuals : IfaceText → List (List VirtPartText)
+iface_virtuals iface = flat_map virtuals_in iface.parts
+
+abbrev pub ips_in_virtual : VirtPartText → List Lexeme
+ips_in_virtual (VirtIp address) = address ∷ []
+ips_in_virtual (VirtKind kind) = []
+ips_in_virtual (VirtId number) = []
+
+-- the address is outside the network of a name
+abbrev pub is_outside_net : List DeclText → Lexeme → Lexeme → Bool
+is_outside_net decls net w = holds_of (λ own. holds_of (λ a. not (prefix_holds (aligned own) a)) (address_of w.text)) (own_prefix (network_parts decls net.text))
+
+-- some interface of the network of a name has the address: of any router, and declared before or behind it
+abbrev pub is_taken : List DeclText → Lexeme → Lexeme → Bool
+is_taken decls net w = list_any (λ i. same_texts net i.net && list_any (same_texts w) (iface_addresses i)) (declared_ifaces decls)
+
+-- a shared address hasn't exactly one address, or that is outside the network or an interface's address in it
+abbrev pub is_bad_virtual : List DeclText → Lexeme → List VirtPartText → Bool
+is_bad_virtual decls net parts = is_bad (only_one (flat_map ips_in_virtual parts))
+  where
+    is_bad : Option Lexeme → Bool
+    is_bad None = true
+    is_bad (Some w) = is_outside_net decls net w || is_taken decls net w
+
+-- 15: an interface shares two addresses, or shares one and its router is unmanaged, or shares a bad one
+abbrev pub is_bad_shared : List DeclText → IfaceText → Bool
+is_bad_shared decls i =
+    has_two (iface_virtuals i) || ((not i.managed && not (is_nothing (iface_virtuals i))) || list_any (is_bad_virtual decls i.net) (iface_virtuals i))
 
 -- ---- restrictions, areas, aggregates, sets and rules
 
@@ -230,7 +267,7 @@ abbrev pub sets_in_objects : Option SetText → List SetText
 sets_in_objects None = []
 sets_in_objects (Some e) = e ∷ []
 
--- 14: a rule names the user neither in its source nor in its destination
+-- 14: a rule, be it one that permits or one that denies, names the user neither in its source nor in its destination
 abbrev pub lacks_user : RuleText → Bool
 lacks_user rule = not (says_user rule.src || says_user rule.dst)
 
@@ -255,7 +292,7 @@ shape_in decls earlier (NetworkDecl name desc parts) =
 shape_in decls earlier (RouterDecl name desc parts) =
     let ifaces = ifaces_in (RouterDecl name desc parts) in
     first_true ((6, is_bad_device parts) ∷ (7, list_any is_bad_iface ifaces) ∷ (8, list_any (is_outside decls) ifaces) ∷ (9, clash_with has_address_of earlier ifaces)
-    ∷ (10, clash_with has_hardware_of [] ifaces) ∷ (11, list_any is_bad_binding ifaces) ∷ [])
+    ∷ (10, clash_with has_hardware_of [] ifaces) ∷ (11, list_any is_bad_binding ifaces) ∷ (15, list_any (is_bad_shared decls) ifaces) ∷ [])
 shape_in decls earlier (GroupDecl name desc objects) =
     first_true ((4, ask_unaligned (sets_in_objects objects)) ∷ (14, name_bare_port decls (sets_in_objects objects)) ∷ [])
 shape_in decls earlier (AreaDecl name desc parts) = first_true ((14, is_bad_area decls parts) ∷ [])

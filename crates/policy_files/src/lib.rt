@@ -4,8 +4,6 @@
 mod file;
 mod files;
 mod laws;
-#[cfg(test)]
-mod tests;
 
 pub use file::read_file;
 pub use files::read_files;

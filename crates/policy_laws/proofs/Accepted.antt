@@ -2,22 +2,24 @@
 use Rattle.std.proofs.Common.{◌≡◌, ℕ, zero, suc, ◌<◌, ◌≤◌, ◌⊎◌, inl, inr, Bool, true, false, not, ◌&&◌, List, [], ◌∷◌, length, map, refl, sym, ap, subst, ◌∙◌, ⊎_elim, arith}
 use Rattle.std.specs.Prelude.{◌==◌, nat_lt, max, Option, Some, None, slice_index, filter, fold}
 use Rattle.std.specs.List.{list_any}
-use Rattle.std.proofs.lemmas.Bool.{and_parts, and_from, or_left, or_right, eq-eqb, lt-ltb, false≢true, not-true, cases_order, false_from_ne_true}
+use Rattle.std.proofs.lemmas.Bool.{and_parts, and_from, or_left, or_right, eq-eqb, lt-ltb, false≢true, not-true, not_from_false, cases_order, false_from_ne_true}
 use Rattle.policy_model.specs.Lists.{once_each}
 use Rattle.policy_model.specs.Policy.{Policy, Router, net_at}
 use Rattle.policy_model.proofs.Shorthand.{policy_of}
 use Rattle.policy_model.specs.Zones.{IsSite, zone_at, zone_count}
 use Rattle.policy_model.specs.Tags.{router_view, zone_view}
-use Rattle.policy_model.specs.Routes.{NextHop, same_number, same_next_hop, hops_of, is_static}
+use Rattle.policy_model.specs.Routes.{NextHop, Hop, same_number, same_next_hop, same_hop, hop_of, hops_of, table_hops, is_static}
 use Rattle.policy_model.specs.Faults.{is_same_prefix, is_translated_inside, has_bare_hop, has_two_hops, lacks_address}
 use Rattle.policy_model.specs.FirstFault.{SamePrefix, NatInside, NoHopAddress, AmbiguousHop, AtZone, AtRouter, IsAccepted, is_bare_next, has_hop, is_lower, hop_order}
 use Rattle.policy_model.specs.Passing.{Config}
 use Rattle.policy_model.specs.Headline.{Meaning, IsMeaning, permits_in, IsExact}
-use Rattle.policy_model.proofs.AllWalks.{IsIn}
+use Rattle.policy_model.proofs.AllWalks.{IsIn, from_map}
+use Rattle.list_laws.proofs.Inherited.{same_hop_true}
 use Rattle.list_laws.proofs.Members.{some_in, some_of, from_filter}
 use Rattle.policy_laws.specs.Secured.{AreSecured, HaveLists}
 use Rattle.policy_laws.specs.Shaped.{IsShaped, HasDistinctPrefixes}
 use Rattle.policy_laws.specs.Routed.{AreRouted, IsWired, HaveTables}
+use Rattle.policy_laws.proofs.NextHops.{same_next_hop_true}
 use Rattle.policy_laws.proofs.Placed.{seen_as}
 use Rattle.policy_laws.proofs.Shapes.{secured}
 use Rattle.policy_laws.proofs.Whole.{exact_configs}
@@ -53,25 +55,48 @@ same_next_refl h = and_from (h.out == h.out) (same_number h.next h.next) (eq-eqb
     go None = refl
     go (Some k) = eq-eqb k k refl
 
-record AreTwo (hops : List NextHop) : Type 0 where
-  h : NextHop
-  k : NextHop
+-- two hops that a table tells apart
+record AreTwo (hops : List Hop) : Type 0 where
+  h : Hop
+  k : Hop
   h_in : IsIn h hops
   k_in : IsIn k hops
-  apart : same_next_hop h k ≡ false
+  apart : same_hop h k ≡ false
 
-two_of : (xs : List NextHop) → nat_lt 1 (length (once_each same_next_hop xs)) ≡ true → AreTwo (once_each same_next_hop xs)
+from_once : (x : Hop) (xs : List Hop) → IsIn x (once_each same_hop xs) → IsIn x xs
+from_once x [] h = h
+from_once x (y ∷ ys) (inl e) = inl e
+from_once x (y ∷ ys) (inr h) = inr (from_once x ys (from_filter (λ z. not (same_hop y z)) x (once_each same_hop ys) h).0)
+
+two_of : (xs : List Hop) → nat_lt 1 (length (once_each same_hop xs)) ≡ true → AreTwo xs
 two_of [] more = absurd (false≢true more)
-two_of (x ∷ xs) more = go (filter other (once_each same_next_hop xs)) refl
+two_of (x ∷ xs) more = go (filter other (once_each same_hop xs)) refl
   where
-    other : NextHop → Bool
-    other y = not (same_next_hop x y)
+    other : Hop → Bool
+    other y = not (same_hop x y)
 
-    go : (rest : List NextHop) → filter other (once_each same_next_hop xs) ≡ rest → AreTwo (x ∷ filter other (once_each same_next_hop xs))
+    go : (rest : List Hop) → filter other (once_each same_hop xs) ≡ rest → AreTwo (x ∷ xs)
     go [] is = absurd (false≢true (sym (ap (λ ys. nat_lt 1 (suc (length ys))) is) ∙ more))
     go (y ∷ rest) is =
-        let there : IsIn y (filter other (once_each same_next_hop xs)) = subst (IsIn y) (sym is) (inl refl) in
-        record { h = x; k = y; h_in = inl refl; k_in = inr there; apart = not-true (same_next_hop x y) (from_filter other y (once_each same_next_hop xs) there).1 }
+        let there : IsIn y (filter other (once_each same_hop xs)) = subst (IsIn y) (sym is) (inl refl) in
+        let w = from_filter other y (once_each same_hop xs) there in
+        record { h = x; k = y; h_in = inl refl; k_in = inr (from_once y xs w.0); apart = not-true (same_hop x y) w.1 }
+
+pub same_hop_refl : (h : Hop) → same_hop h h ≡ true
+same_hop_refl h = and_from (h.out == h.out) (same_number h.gateway h.gateway) (eq-eqb h.out h.out refl) (go h.gateway)
+  where
+    go : (o : Option ℕ) → same_number o o ≡ true
+    go None = refl
+    go (Some k) = eq-eqb k k refl
+
+same_hop_turned : (h k : Hop) → same_hop h k ≡ false → same_hop k h ≡ false
+same_hop_turned h k e = false_from_ne_true (same_hop k h) (λ t. false≢true (sym e ∙ subst (λ (x : Hop). same_hop h x ≡ true) (sym (same_hop_true k h t)) (same_hop_refl h)))
+
+-- next hops that a table tells apart are two
+apart_by : (p : Policy) (h k : NextHop) → same_hop (hop_of p h) (hop_of p k) ≡ false → same_next_hop h k ≡ false
+apart_by p h k e =
+    false_from_ne_true (same_next_hop h k)
+    (λ t. false≢true (sym e ∙ subst (λ (x : NextHop). same_hop (hop_of p h) (hop_of p x) ≡ true) (same_next_hop_true h k t) (same_hop_refl (hop_of p h))))
 
 abbrev one_way : NextHop → NextHop → Bool
 one_way h k = is_lower (hop_order h) (hop_order k)
@@ -150,21 +175,32 @@ module _ (m : Meaning) (site : IsSite m.site) (shape : IsShaped m.site.policy) (
       bare r n below a.0 w.0 w.1 w.2)
 
   ambiguous : (r n : ℕ) → n < length p.nets → is_static p r ≡ true → (h k : NextHop) → IsIn h (hops_of m.site (permits_in m) r n) → IsIn k (hops_of m.site (permits_in m) r n) →
-      one_way h k ≡ true → ⊥
-  ambiguous r n below fixed h k h_in k_in lower =
+      same_hop (hop_of p h) (hop_of p k) ≡ false → one_way h k ≡ true → ⊥
+  ambiguous r n below fixed h k h_in k_in other lower =
       let hops = hops_of m.site (permits_in m) r n in
       let a = some_of (same_next_hop h) h hops h_in (same_next_refl h) in
       let b = some_of (same_next_hop k) k hops k_in (same_next_refl k) in
-      none (AmbiguousHop r n h k)
-      (below, and_from (is_static p r && has_hop hops h && has_hop hops k) (one_way h k) (and_from (is_static p r && has_hop hops h) (has_hop hops k) (and_from (is_static p r) (has_hop hops h) fixed a) b) lower)
+      none (AmbiguousHop r n h k) (
+        below,
+        and_from (is_static p r && has_hop hops h && has_hop hops k && not (same_hop (hop_of p h) (hop_of p k))) (one_way h k)
+            (and_from (is_static p r && has_hop hops h && has_hop hops k) (not (same_hop (hop_of p h) (hop_of p k)))
+            (and_from (is_static p r && has_hop hops h) (has_hop hops k) (and_from (is_static p r) (has_hop hops h) fixed a) b) (not_from_false (same_hop (hop_of p h) (hop_of p k)) other)) lower,
+      )
 
   one_hop : (r n : ℕ) → n < length p.nets → has_two_hops m.site (permits_in m) r n ≡ false
   one_hop r n below =
       let hops = hops_of m.site (permits_in m) r n in
       false_from_ne_true (has_two_hops m.site (permits_in m) r n)
-      (λ t. let a = and_parts (is_static p r) (nat_lt 1 (length hops)) t in
-      let w = two_of _ a.1 in
-      ⊎_elim (λ lower. ambiguous r n below a.0 w.h w.k w.h_in w.k_in lower) (λ lower. ambiguous r n below a.0 w.k w.h w.k_in w.h_in lower) (in_order w.h w.k w.apart))
+      (λ t. let a = and_parts (is_static p r) (nat_lt 1 (length (table_hops m.site (permits_in m) r n))) t in
+      let w = two_of (map (hop_of p) hops) a.1 in
+      let x = from_map (hop_of p) w.h hops w.h_in in
+      let y = from_map (hop_of p) w.k hops w.k_in in
+      let h : NextHop = x.0 in
+      let k : NextHop = y.0 in
+      let other : same_hop (hop_of p h) (hop_of p k) ≡ false =
+      subst (λ (g : Hop). same_hop (hop_of p h) g ≡ false) y.2 (subst (λ (g : Hop). same_hop g w.k ≡ false) x.2 w.apart) in
+      ⊎_elim (λ lower. ambiguous r n below a.0 h k x.1 y.1 other lower) (λ lower. ambiguous r n below a.0 k h y.1 x.1 (same_hop_turned (hop_of p h) (hop_of p k) other) lower)
+      (in_order h k (apart_by p h k other)))
 
   pub routes_clear : AreRouted m.site m.views (permits_in m)
   routes_clear = record {
@@ -178,6 +214,7 @@ module _ (m : Meaning) (site : IsSite m.site) (shape : IsShaped m.site.policy) (
     inside = none_inside;
     placed = wired.placed;
     once = wired.once;
+    own = wired.own;
   }
 
 pub secures : (m : Meaning) → IsSite m.site → IsShaped m.site.policy → IsWired m.site.policy → IsAccepted m →

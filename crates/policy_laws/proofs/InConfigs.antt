@@ -9,7 +9,7 @@ use Rattle.policy_model.specs.Tags.{Views, zone_view}
 use Rattle.policy_model.specs.Permits.{Permit, mirrors_of}
 use Rattle.policy_model.specs.Packets.{Header}
 use Rattle.policy_model.specs.Filters.{passes}
-use Rattle.policy_model.specs.Blocks.{is_on_path, is_ios_at}
+use Rattle.policy_model.specs.Blocks.{is_on_path, places_replies_at}
 use Rattle.policy_model.specs.Passing.{Config, list_in}
 use Rattle.policy_model.specs.Laws.{IsExactAt, permit_has}
 use Rattle.policy_laws.specs.Secured.{AreSecured, HaveLists}
@@ -25,5 +25,5 @@ pub nothing_else_in : (s : Site) (v : Views) (permits : List Permit) (configs : 
     (i : ℕ) → i < length s.policy.ifaces → IsTrue (is_managed s.policy (router_at s.policy i)) →
     (h : Header) → IsTransport h.transport → IsTrue (passes (list_in s.policy configs i) h) →
     IsTrue (list_any (λ q. is_on_path s i (record { src = q.src.net; dst = q.dst.net }) && permit_has s.policy (zone_view v (zone_at s i)) h q)
-    (permits ++ (if is_ios_at s.policy i then flat_map mirrors_of permits else [])))
+    (permits ++ (if places_replies_at s.policy i then flat_map mirrors_of permits else [])))
 nothing_else_in s v permits configs ok lists i below managed h transport passed = nothing_else s v permits i (ok.lists i below) h (lists i below managed h transport ∙ passed)

@@ -22,13 +22,13 @@ use Rattle.policy_lists.specs.Coming.{ifaces_from, placed_in, ArePlacedFrom}
 
 -- ---- the interfaces to come
 
-next_iface : (p : Policy) (i : ℕ) → i < length p.ifaces → ifaces_from p i ≡ i ∷ ifaces_from p (i + 1)
+pub next_iface : (p : Policy) (i : ℕ) → i < length p.ifaces → ifaces_from p i ≡ i ∷ ifaces_from p (i + 1)
 next_iface p i below = let e : length p.ifaces - i ≡ suc (length p.ifaces - (i + 1)) = omega (arith, below) in ap (range_with_len i) e
 
-no_iface_left : (p : Policy) (i : ℕ) → length p.ifaces ≤ i → ifaces_from p i ≡ []
+pub no_iface_left : (p : Policy) (i : ℕ) → length p.ifaces ≤ i → ifaces_from p i ≡ []
 no_iface_left p i past = let e : length p.ifaces - i ≡ 0 = omega (arith, past) in ap (range_with_len i) e
 
-all_from_start : (p : Policy) → ifaces_from p 0 ≡ range_with_len 0 (length p.ifaces)
+pub all_from_start : (p : Policy) → ifaces_from p 0 ≡ range_with_len 0 (length p.ifaces)
 all_from_start p = let e : length p.ifaces - 0 ≡ length p.ifaces = omega arith in ap (range_with_len 0) e
 
 -- ---- placements

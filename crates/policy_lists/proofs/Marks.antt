@@ -1,13 +1,14 @@
 -- Tables of marks are those of their pairs of zones.
 use Rattle.std.proofs.Common.{◌≡◌, ℕ, zero, suc, ◌<◌, List, [], ◌∷◌, length, map, drop, refl, sym, ap, subst, ◌∙◌, arith}
 use Rattle.std.specs.Prelude.{slice_index_or}
+use Rattle.std.specs.List.{Contains}
 use Rattle.spoc_base.specs.declared.ids.ZoneId.{ZoneId}
 use Rattle.policy_model.specs.Zones.{Site}
 use Rattle.policy_model.specs.Marks.{marked_crossings}
 use Rattle.zone_graph.specs.declared.marks.PairMarks.{PairMarks}
 use Rattle.path_walk.specs.Tables.{Table, table_seen, table_of}
 use Rattle.rule_distribute.specs.Paths.{HaveMarks, zones_named, crossing_seen}
-use Rattle.policy_lists.specs.Marked.{zones_seen}
+use Rattle.rule_distribute.specs.Shown.{zones_seen}
 
 -- the table has the crossings of all allowed walks between its zones
 abbrev IsMarked : Site → PairMarks → Type 0
@@ -37,4 +38,4 @@ marked_all s (z ∷ pairs) (x ∷ tables) e zero t below at = subst (IsMarked s)
 marked_all s (z ∷ pairs) (x ∷ tables) e (suc k) t below at = marked_all s pairs tables (ap (λ l. drop 1 l) e) k t (omega (arith, below)) at
 
 pub have_marks : (s : Site) (pairs : List (ZoneId × ZoneId)) (tables : List PairMarks) → map table_seen tables ≡ map (table_of s) pairs → HaveMarks s (map zones_seen pairs) tables
-have_marks s pairs tables e = record { names = names_of s pairs tables e; marks = marked_all s pairs tables e }
+have_marks s pairs tables e = record { there = λ z c. subst (λ (zs : List (ℕ × ℕ)). Contains zs z) (sym (names_of s pairs tables e)) c; marks = marked_all s pairs tables e }

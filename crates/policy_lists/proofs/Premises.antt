@@ -11,12 +11,11 @@ use Rattle.policy_laws.specs.Shaped.{IsShaped}
 use Rattle.policy_laws.proofs.PermitLines.{in_at}
 use Rattle.topology.specs.Sound.{IsSound}
 use Rattle.zone_graph.specs.Grouped.{Graph, IsGraphOf}
-use Rattle.zone_laws.proofs.Counted.{counted}
+use Rattle.zone_graph.proofs.Counted.{counted}
 use Rattle.meaning_laws.specs.Tables.{meaning_of}
 use Rattle.meaning_laws.proofs.MeaningThere.{meaning_found}
 use Rattle.fault_laws.proofs.There.{permit_there}
-use Rattle.rule_distribute.specs.Given.{site_with, ArePermits}
-use Rattle.acl_build.specs.Given.{AreKnown}
+use Rattle.permit_lines.specs.Given.{site_with, AreKnown}
 use Rattle.policy_lists.proofs.Ends.{permit_ends}
 
 -- ---- views
@@ -45,9 +44,6 @@ module _ (p : Policy) (sound : IsSound p) (shaped : IsShaped p) (permits : List 
       let zoned = (meaning_found p).zones.each in
       let nets = permit_there s sound (length p.nets) (omega arith) (omega (arith, zoned)) areas q known in
       subst (λ (xs : List Permit). IsThere (permit_at xs k)) (sym expanded) (nets.0, nets.1, permit_ends s areas shaped q known)
-
-  pub are_permits : ArePermits p permits
-  are_permits = record { srcs = λ k h. (each_there k h).0; dsts = λ k h. (each_there k h).1; ends = λ k h. (each_there k h).2 }
 
   pub are_known : AreKnown p permits
   are_known = record {

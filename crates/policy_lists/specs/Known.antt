@@ -5,7 +5,7 @@ use Rattle.policy_laws.specs.Shaped.{IsShaped}
 use Rattle.topology.specs.View.{policy_of}
 use Rattle.nat_view.specs.Views.{seen_of}
 use Rattle.permit_set.specs.Shown.{permit_of}
-use Rattle.rule_distribute.specs.Given.{site_with}
+use Rattle.permit_lines.specs.Given.{site_with}
 use Rattle.policy_outcome.specs.Found.{IsFound}
 use Rattle.policy_lists.specs.declared.viewed.Viewed.{Viewed}
 

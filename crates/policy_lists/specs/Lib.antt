@@ -1,3 +1,3 @@
 pub mod Known
-pub mod Marked
 pub mod Coming
+pub mod Walking

@@ -1,4 +1,5 @@
 ghost use Rattle.std.specs.Prelude.{◌≡◌, ◌+◌, ◌<◌, ◌≤◌, ◌++◌, ◌∷◌, [], drop, length, map, Ok, Err, IfOk, IfErr, OnOk};
+ghost use Rattle.policy_model.specs.FirstFault.{most_items};
 ghost use Rattle.policy_model.specs.Policy.{router_at, is_managed};
 ghost use Rattle.policy_laws.specs.Shaped.{IsShaped};
 ghost use Rattle.topology.specs.First.{IsRefusalOf};
@@ -10,7 +11,9 @@ ghost use Rattle.fault_text.specs.Texts.{fault_line};
 ghost use Rattle.policy_outcome.specs.Outcome.{after_services, list_for, lists_for, written_for};
 ghost use Rattle.policy_outcome.specs.Found.{meaning_in, pairs_in, IsFound};
 ghost use Rattle.policy_lists.specs.Known.{IsViewed};
+ghost use Rattle.acl_build.specs.Limit.{RefusesLines};
 ghost use Rattle.policy_lists.specs.Coming.{ArePlacedFrom};
+ghost use Rattle.policy_lists.specs.Walking.{line_total};
 
 use crate::places::places_of;
 use crate::viewed::Viewed;
@@ -23,6 +26,9 @@ use spoc_base::{IfId, NoMemory, Refusal};
 use std::alloc::Global;
 use topology::Topo;
 use zone_graph::ZoneGraph;
+
+// How many lines all lists together may have before they are optimised.
+const MOST_LINES: u64 = 4_000_000;
 
 // How many interfaces there are.
 fn iface_count(topo: Topo<'_>) -> u32
@@ -40,7 +46,8 @@ fn is_managed_iface(topo: Topo<'_>, i: IfId) -> bool
 }
 
 // The list at an interface: that of the next placement where its router is managed, and an empty
-// one elsewhere; and where the placements of the interfaces behind it begin.
+// one elsewhere; and where the placements of the interfaces behind it begin. `left` goes down by
+// the lines of the list.
 fn list_here<'s>(
     alloc: Global,
     scratch: &'s Bump,
@@ -48,7 +55,8 @@ fn list_here<'s>(
     places: &[Placement],
     next: u32,
     i: IfId,
-) -> Result<(List<'s>, u32), NoMemory>
+    left: &mut u64,
+) -> Result<(List<'s>, u32), Refusal>
     requires viewed { IsViewed viewed.now }
     requires there { i.0 < length (policy_of viewed.now.topo).ifaces }
     requires before { next ≤ i.0 }
@@ -56,6 +64,8 @@ fn list_here<'s>(
     ensures list { IfOk result (λ r. lines_of r.0 ≡ list_for (meaning_in viewed.now.topo) i.0) }
     ensures before { IfOk result (λ r. r.1 ≤ i.0 + 1) }
     ensures places { IfOk result (λ r. ArePlacedFrom (meaning_in viewed.now.topo) (i.0 + 1) (drop r.1 places.now)) }
+    ensures left { OnOk result (left.new + length (list_for (meaning_in viewed.now.topo) i.0) ≡ left.old) }
+    ensures refused { IfErr result (RefusesLines left.old (length (list_for (meaning_in viewed.now.topo) i.0))) }
 {
     let topo = viewed.topo;
     if !is_managed_iface(topo, i) {
@@ -70,6 +80,7 @@ fn list_here<'s>(
         viewed.views,
         viewed.permits,
         place,
+        left,
     )?;
     Ok((list, next + 1))
 }
@@ -84,22 +95,26 @@ fn push_list<'s>(lists: &mut Vec<List<'s>>, list: List<'s>) -> Result<(), NoMemo
     Ok(())
 }
 
-// The list at each interface, by what is placed at those of managed routers.
+// The list at each interface, by what is placed at those of managed routers, unless all of them have
+// too many lines.
 fn lists_of<'s>(
     alloc: Global,
     scratch: &'s Bump,
     viewed: &Viewed<'_>,
     places: &[Placement],
-) -> Result<Vec<List<'s>>, NoMemory>
+) -> Result<Vec<List<'s>>, Refusal>
     requires viewed { IsViewed viewed.now }
     requires places { ArePlacedFrom (meaning_in viewed.now.topo) 0 places.now }
-    ensures { IfOk result (λ lists. map lines_of lists.items ≡ lists_for (meaning_in viewed.now.topo)) }
+    ensures lists { IfOk result (λ lists. map lines_of lists.items ≡ lists_for (meaning_in viewed.now.topo)) }
+    ensures few { OnOk result (line_total (meaning_in viewed.now.topo) ≤ most_items) }
+    ensures refused { IfErr result (RefusesLines most_items (line_total (meaning_in viewed.now.topo))) }
 {
     let mut lists = Vec::new(alloc);
+    let mut left = MOST_LINES;
     let mut next = 0;
     for i in 0..iface_count(viewed.topo) {
         let i = IfId(i);
-        let (list, after) = list_here(alloc, scratch, viewed, places, next, i)?;
+        let (list, after) = list_here(alloc, scratch, viewed, places, next, i, &mut left)?;
         push_list(&mut lists, list)?;
         next = after;
     }
@@ -108,6 +123,9 @@ fn lists_of<'s>(
 
 /// The access list of each interface, by number, before it is optimised; those of routers that
 /// aren't managed are empty. The lists lie in `scratch`.
+///
+/// A refusal tells the first permit without a path, or else the first hidden end on a walk, or else
+/// that the lists have more than 4,000,000 lines together.
 pub fn lists<'s>(
     alloc: Global,
     scratch: &'s Bump,

@@ -1,6 +1,7 @@
 -- How the refusals of the layers become lines of the outcome.
 use Rattle.std.proofs.Common.{◌≡◌, ℕ, ◌<◌, ◌≤◌, List, map, length, sym, ap, ◌∙◌, ⊎_elim, arith}
-use Rattle.std.specs.Prelude.{Option, Result, Err}
+use Rattle.std.specs.Prelude.{max, Option, Result, Err}
+use Rattle.std.proofs.Math.Nat.{le-max_right}
 use Rattle.std.proofs.lemmas.Bool.{false≢true, cases_lt}
 use Rattle.spoc_base.specs.declared.place.Source.{Source}
 use Rattle.spoc_base.specs.declared.fault.Fault.{Fault}
@@ -8,6 +9,7 @@ use Rattle.spoc_base.specs.declared.fault.Refusal.{Refusal}
 use Rattle.spoc_base.specs.declared.fault.Refusal.TheVariants as refusal
 use Rattle.policy_model.specs.FirstFault.{FaultCase, AreaSplit, NatConflict, NatTwice, NatInside, LimitViews, SamePrefix, HostShadowed, IfaceShadowed, ManagedEnd, LimitPermits, NoPath, HiddenEnd, LimitLines, LimitRoutes, NoHopAddress, AmbiguousHop, most_items}
 use Rattle.policy_model.specs.Headline.{Meaning, permits_in}
+use Rattle.policy_model.specs.Permits.{listed_denials, listed_permits}
 use Rattle.policy_model.specs.Zones.{Site}
 use Rattle.topology.specs.First.{HasNone, TellsFirst, IsRefusalOf}
 use Rattle.topology.specs.Told.{IsTold}
@@ -50,7 +52,10 @@ at_most : (n limit : ℕ) → (limit < n → ⊥) → n ≤ limit
 at_most n limit bound = ⊎_elim (λ many. absurd (bound many)) (λ few. few) (cases_lt limit n)
 
 pub few : (m : Meaning) → HasNone m 7 8 → length (permits_in m) ≤ most_items
-few m none = at_most (length (permits_in m)) most_items (λ many. none LimitPermits (record { lower = omega arith; upper = omega arith }) many)
+few m none =
+    let inner = le-max_right (length (listed_denials m.site m.areas)) (length (permits_in m)) in
+    let all = le-max_right (length (listed_permits m.site m.areas)) (max (length (listed_denials m.site m.areas)) (length (permits_in m))) in
+    at_most (length (permits_in m)) most_items (λ many. none LimitPermits (record { lower = omega arith; upper = omega arith }) (omega (arith, many, inner, all)))
 
 -- no area is split
 pub none_split : (m : Meaning) → AreWhole m.site m.areas → HasNone m 0 0
@@ -61,11 +66,11 @@ none_split m whole (NatInside n tag) w h = let u = w.upper in absurd (omega (ari
 none_split m whole LimitViews w h = let u = w.upper in absurd (omega (arith, u))
 none_split m whole (SamePrefix n other at) w h = let u = w.upper in absurd (omega (arith, u))
 none_split m whole (HostShadowed k n at) w h = let u = w.upper in absurd (omega (arith, u))
-none_split m whole (IfaceShadowed i n at) w h = let u = w.upper in absurd (omega (arith, u))
+none_split m whole (IfaceShadowed i shared n at) w h = let u = w.upper in absurd (omega (arith, u))
 none_split m whole (ManagedEnd k i) w h = let u = w.upper in absurd (omega (arith, u))
 none_split m whole LimitPermits w h = let u = w.upper in absurd (omega (arith, u))
 none_split m whole (NoPath u v) w h = let u = w.upper in absurd (omega (arith, u))
-none_split m whole (HiddenEnd k n z) w h = let u = w.upper in absurd (omega (arith, u))
+none_split m whole (HiddenEnd k src dst n z) w h = let u = w.upper in absurd (omega (arith, u))
 none_split m whole LimitLines w h = let u = w.upper in absurd (omega (arith, u))
 none_split m whole LimitRoutes w h = let u = w.upper in absurd (omega (arith, u))
 none_split m whole (NoHopAddress r n i) w h = let u = w.upper in absurd (omega (arith, u))

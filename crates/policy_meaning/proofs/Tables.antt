@@ -12,7 +12,7 @@ use Rattle.policy_model.proofs.OneMeaning.{one_table_of_views, one_table_of_area
 use Rattle.topology.specs.View.{policy_of}
 use Rattle.topology.specs.declared.topo.Topo.{Topo}
 use Rattle.zone_graph.specs.Grouped.{Graph, IsGraphOf}
-use Rattle.zone_laws.proofs.Counted.{counted}
+use Rattle.zone_graph.proofs.Counted.{counted}
 use Rattle.meaning_laws.specs.Tables.{zones_of}
 use Rattle.meaning_laws.proofs.ZonesThere as there
 use Rattle.meaning_laws.proofs.RowsThere as rows

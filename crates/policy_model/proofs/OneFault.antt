@@ -54,11 +54,11 @@ fault_from permits xs =
     (cond (row == 3) (NatInside a b)
     (cond (row == 4) LimitViews
     (cond (row == 5) (SamePrefix c d (place_from a b))
-    (cond (row == 6) (cond (c == 0) (HostShadowed d e (place_from a b)) (IfaceShadowed d e (place_from a b)))
+    (cond (row == 6) (cond (c == 0) (HostShadowed d e (place_from a b)) (IfaceShadowed d (e == 1) (slice_index xs 6) (place_from a b)))
     (cond (row == 7) (ManagedEnd a b)
     (cond (row == 8) LimitPermits
     (cond (row == 9) (NoPath a b)
-    (cond (row == 10) (HiddenEnd a (cond (c == 0) (permit_at permits a).src.net (permit_at permits a).dst.net) b)
+    (cond (row == 10) (HiddenEnd a (permit_at permits a).src.net (permit_at permits a).dst.net (cond (c == 0) (permit_at permits a).src.net (permit_at permits a).dst.net) b)
     (cond (row == 11) LimitLines
     (cond (row == 12) LimitRoutes
     (cond (row == 13) (NoHopAddress a b c) (AmbiguousHop a b (hop_from c d) (hop_from e (slice_index xs 6))))))))))))))))
@@ -78,17 +78,20 @@ read_back m (SamePrefix n o (AtZone z)) h = refl
 read_back m (SamePrefix n o (AtRouter r)) h = refl
 read_back m (HostShadowed n o (AtZone z)) h = refl
 read_back m (HostShadowed n o (AtRouter r)) h = refl
-read_back m (IfaceShadowed n o (AtZone z)) h = refl
-read_back m (IfaceShadowed n o (AtRouter r)) h = refl
+read_back m (IfaceShadowed i true o (AtZone z)) h = refl
+read_back m (IfaceShadowed i true o (AtRouter r)) h = refl
+read_back m (IfaceShadowed i false o (AtZone z)) h = refl
+read_back m (IfaceShadowed i false o (AtRouter r)) h = refl
 read_back m (ManagedEnd k i) h = refl
 read_back m LimitPermits h = refl
 read_back m (NoPath u w) h = refl
-read_back m (HiddenEnd k n z) h =
+read_back m (HiddenEnd k u w n z) h =
     let q : Permit = permit_at (permits_in m) k in
     let a = and_parts _ _ h.2 in
     let b = and_parts _ _ a.0 in
     let c = and_parts (not (zone_of m.site q.src.net == zone_of m.site q.dst.net)) ((n == q.src.net) || (n == q.dst.net)) b.0 in
-    ap (λ (x : ℕ). HiddenEnd k x z) (its_end q.src.net q.dst.net n (q.src.net == n) refl c.1)
+    ap (λ (x : ℕ). HiddenEnd k q.src.net q.dst.net x z) (its_end q.src.net q.dst.net n (q.src.net == n) refl c.1)
+    ∙ (ap (λ (x : ℕ). HiddenEnd k x q.dst.net n z) h.3 ∙ ap (λ (x : ℕ). HiddenEnd k u x n z) h.4)
 read_back m LimitLines h = refl
 read_back m LimitRoutes h = refl
 read_back m (NoHopAddress r n i) h = refl

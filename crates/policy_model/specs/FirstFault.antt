@@ -6,9 +6,9 @@ use Rattle.policy_model.specs.Lists.{pairs_of}
 use Rattle.policy_model.specs.Policy.{Policy, Service, NoObjects, host_of, iface_of, net_at, router_at, is_managed, all_nets, all_routers, all_ifaces}
 use Rattle.policy_model.specs.Zones.{Site, zone_count}
 use Rattle.policy_model.specs.Tags.{Views, zone_view, router_view}
-use Rattle.policy_model.specs.Permits.{Permit, one_address}
+use Rattle.policy_model.specs.Permits.{Permit, one_address, permit_count}
 use Rattle.policy_model.specs.Blocks.{list_at, permit_at}
-use Rattle.policy_model.specs.Routes.{NextHop, same_number, same_next_hop, hops_of, is_static}
+use Rattle.policy_model.specs.Routes.{NextHop, same_number, same_next_hop, same_hop, hop_of, hops_of, is_static}
 use Rattle.policy_model.specs.Faults.{is_split, IsConflicting, is_translated_twice, is_translated_inside, view_count, is_same_prefix, IsShadowed, is_hidden_end, has_managed_end, has_no_path, lacks_address}
 use Rattle.policy_model.specs.Headline.{Meaning, permits_in}
 
@@ -34,11 +34,11 @@ pub data FaultCase : Type 0 where
   LimitViews : FaultCase
   SamePrefix : (net other : ℕ) (at : ViewPlace) → FaultCase
   HostShadowed : (host net : ℕ) (at : ViewPlace) → FaultCase
-  IfaceShadowed : (iface net : ℕ) (at : ViewPlace) → FaultCase
+  IfaceShadowed : (iface : ℕ) (shared : Bool) (net : ℕ) (at : ViewPlace) → FaultCase
   ManagedEnd : (service iface : ℕ) → FaultCase
   LimitPermits : FaultCase
   NoPath : (src dst : ℕ) → FaultCase
-  HiddenEnd : (permit net zone : ℕ) → FaultCase
+  HiddenEnd : (permit src dst net zone : ℕ) → FaultCase
   LimitLines : FaultCase
   LimitRoutes : FaultCase
   NoHopAddress : (router net iface : ℕ) → FaultCase
@@ -65,7 +65,7 @@ place_order (AtZone z) = 0 ∷ z ∷ []
 place_order (AtRouter r) = 1 ∷ r ∷ []
 
 -- The row of the fault, and then its values in the order in which they are compared: mostly as they are printed, but the zone or the view first where there
--- is one, hosts before interfaces, and for a hidden end the permit, the zone, and the source first.
+-- is one, hosts before interfaces, own addresses before shared ones, and for a hidden end the permit, the zone, and the source first.
 abbrev pub order_of : List Permit → FaultCase → List ℕ
 order_of permits (AreaSplit area border) = 0 ∷ area ∷ border ∷ []
 order_of permits (NatConflict tag zone) = 1 ∷ zone ∷ tag ∷ []
@@ -74,11 +74,11 @@ order_of permits (NatInside net tag) = 3 ∷ net ∷ tag ∷ []
 order_of permits LimitViews = 4 ∷ []
 order_of permits (SamePrefix net other at) = 5 ∷ (place_order at ++ net ∷ other ∷ [])
 order_of permits (HostShadowed host net at) = 6 ∷ (place_order at ++ 0 ∷ host ∷ net ∷ [])
-order_of permits (IfaceShadowed iface net at) = 6 ∷ (place_order at ++ 1 ∷ iface ∷ net ∷ [])
+order_of permits (IfaceShadowed iface shared net at) = 6 ∷ (place_order at ++ 1 ∷ iface ∷ (if shared then 1 else 0) ∷ net ∷ [])
 order_of permits (ManagedEnd service iface) = 7 ∷ service ∷ iface ∷ []
 order_of permits LimitPermits = 8 ∷ []
 order_of permits (NoPath src dst) = 9 ∷ src ∷ dst ∷ []
-order_of permits (HiddenEnd permit net zone) = 10 ∷ permit ∷ zone ∷ (if (permit_at permits permit).src.net == net then 0 else 1) ∷ []
+order_of permits (HiddenEnd permit src dst net zone) = 10 ∷ permit ∷ zone ∷ (if (permit_at permits permit).src.net == net then 0 else 1) ∷ []
 order_of permits LimitLines = 11 ∷ []
 order_of permits LimitRoutes = 12 ∷ []
 order_of permits (NoHopAddress router net iface) = 13 ∷ router ∷ net ∷ iface ∷ []
@@ -90,7 +90,7 @@ order_of permits (AmbiguousHop router net first second) = 14 ∷ router ∷ net 
 abbrev pub most_views : ℕ
 most_views = 256
 
--- expanded permits, lines before they are optimised, and networks to which a static router has a hop that isn't direct
+-- listed permits, listed denials and expanded permits, each by itself, lines before they are optimised, and networks to which a static router has a hop that isn't direct
 abbrev pub most_items : ℕ
 most_items = 4000000
 
@@ -108,10 +108,14 @@ route_count s permits =
 abbrev pub no_service : Service
 no_service = record { name = []; user = NoObjects; rules = [] }
 
--- the address of the interface is placed at the network, in a view
-pub record IsIfaceShadowed (p : Policy) (view : List ℕ) (i m : ℕ) : Type 0 where
+-- the shared address of the interface, or its own
+abbrev pub address_at : Policy → ℕ → Bool → Option ℕ
+address_at p i shared = if shared then (iface_of p i).shared else (iface_of p i).addr
+
+-- the shared address of the interface, or its own, is placed at the network, in a view
+pub record IsIfaceShadowed (p : Policy) (view : List ℕ) (i : ℕ) (shared : Bool) (m : ℕ) : Type 0 where
   pub address : ℕ
-  pub its : (iface_of p i).addr ≡ Some address
+  pub its : address_at p i shared ≡ Some address
   pub shadowed : IsShadowed p view (net_at p i) (one_address address) m
 
 -- the interface is the next one of a hop, and has no address
@@ -133,18 +137,22 @@ HasFault m (SamePrefix n other at) =
 HasFault m (HostShadowed h other at) =
     (h < length m.site.policy.hosts) × IsTrue (is_there m.site at)
     × IsShadowed m.site.policy (view_at m.views at) (host_of m.site.policy h).net (host_of m.site.policy h).range other
-HasFault m (IfaceShadowed i other at) = (i < length m.site.policy.ifaces) × IsTrue (is_there m.site at) × IsIfaceShadowed m.site.policy (view_at m.views at) i other
+HasFault m (IfaceShadowed i shared other at) =
+    (i < length m.site.policy.ifaces) × IsTrue (is_there m.site at) × IsIfaceShadowed m.site.policy (view_at m.views at) i shared other
 HasFault m (ManagedEnd k i) = (k < length m.site.policy.services) × IsTrue (has_managed_end m.site m.areas (slice_index_or m.site.policy.services k no_service) i)
-HasFault m LimitPermits = most_items < length (permits_in m)
+HasFault m LimitPermits = most_items < permit_count m.site m.areas
 HasFault m (NoPath u w) = IsTrue (list_any (λ q. (q.src.net == u) && (q.dst.net == w) && has_no_path m.site q) (permits_in m))
-HasFault m (HiddenEnd k n z) = (k < length (permits_in m)) × (z < zone_count m.site) × IsTrue (is_hidden_end m.site m.views (permit_at (permits_in m) k) n z)
+HasFault m (HiddenEnd k u w n z) =
+    (k < length (permits_in m)) × (z < zone_count m.site) × IsTrue (is_hidden_end m.site m.views (permit_at (permits_in m) k) n z)
+    × ((permit_at (permits_in m) k).src.net ≡ u) × ((permit_at (permits_in m) k).dst.net ≡ w)
 HasFault m LimitLines = most_items < line_count m.site m.views (permits_in m)
 HasFault m LimitRoutes = most_items < route_count m.site (permits_in m)
 HasFault m (NoHopAddress r n i) =
     (n < length m.site.policy.nets) × IsTrue (is_static m.site.policy r && list_any (is_bare_next m.site.policy i) (hops_of m.site (permits_in m) r n))
 HasFault m (AmbiguousHop r n first second) =
     (n < length m.site.policy.nets)
-    × IsTrue (is_static m.site.policy r && has_hop (hops_of m.site (permits_in m) r n) first && has_hop (hops_of m.site (permits_in m) r n) second && is_lower (hop_order first) (hop_order second))
+    × IsTrue (is_static m.site.policy r && has_hop (hops_of m.site (permits_in m) r n) first && has_hop (hops_of m.site (permits_in m) r n) second
+    && not (same_hop (hop_of m.site.policy first) (hop_of m.site.policy second)) && is_lower (hop_order first) (hop_order second))
 
 -- It has this fault, and none that comes before it.
 pub record IsFirstFault (m : Meaning) (f : FaultCase) : Type 0 where

@@ -10,8 +10,6 @@ pub mod names;
 mod sets;
 pub mod table;
 mod tables;
-#[cfg(test)]
-mod tests;
 pub mod unknown;
 pub mod uses;
 

@@ -66,7 +66,7 @@ fn in_if_part<'a>(part: &IfPart<'a>, found: &mut Vec<Mention<'a>>) -> Result<(),
 {
     match part {
         IfPart::BindNat(tags) => in_tags(tags, found),
-        IfPart::Ip(_) | IfPart::Hardware(_) | IfPart::Idle(_) => Ok(()),
+        IfPart::Ip(_) | IfPart::Hardware(_) | IfPart::Virtual(_) | IfPart::Idle(_) => Ok(()),
     }
 }
 

@@ -8,8 +8,6 @@ mod graph;
 mod group_graph;
 mod nodes;
 mod search;
-#[cfg(test)]
-mod tests;
 
 pub use circle::first_on_circle;
 pub use depth::nest_too_deep;

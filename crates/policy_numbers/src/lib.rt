@@ -3,8 +3,6 @@
 //! above 65535 or a prefix with a host bit, is read all the same.
 #![tactic(auto)]
 
-#[cfg(test)]
-mod tests;
 pub mod text;
 pub mod words;
 

@@ -8,20 +8,13 @@ use Rattle.policy_model.specs.Permits.{Packet}
 use Rattle.policy_model.specs.Routes.{next_hops, lookup, is_static}
 use Rattle.policy_model.specs.Blocks.{list_at}
 use Rattle.policy_model.specs.Passing.{Config, config_of, list_in}
-use Rattle.policy_model.specs.Headline.{Meaning, IsMeaning, IsUnderWay, WalksPass, DevicesPass, TablesSend, permits_in}
-use Rattle.policy_laws.specs.Routed.{HasClearRoutes, HaveTables}
+use Rattle.policy_model.specs.Headline.{Meaning, IsMeaning, IsUnderWay, TranslatesNoneInside, WalksPass, DevicesPass, ListsPass, permits_in}
 use Rattle.policy_outcome.specs.Files.{config_for}
 use Rattle.policy_outcome.specs.Outcome.{lists_for}
 
 -- the configurations of the managed routers, in order
 abbrev pub configs_for : Meaning → List Config
 configs_for m = map (config_for m.site.policy (lists_for m)) (managed_routers m.site.policy)
-
--- The policy has no fault of routes, and the static routers' tables are the policy's own with the routes of these configurations. No routes are written
--- yet; which policies are such ones all the same isn't proved.
-pub record IsRoutedBy (m : Meaning) (configs : List Config) : Type 0 where
-  pub clear : HasClearRoutes m.site m.views (permits_in m)
-  pub tables : HaveTables m.site m.views (permits_in m) configs
 
 -- Where a walk leaves a static router straight into the destination's network, that is the walk's one next hop there, and the router's table sends an
 -- unambiguous packet to it.
@@ -35,14 +28,16 @@ TablesSendDirect m configs =
     × (option_and_then (lookup p r (config_of p configs r).routes) (translated_address p (router_view m.views r) x.dst.net x.dst.addr)
     ≡ Some (record { out = c.leave; gateway = None }))
 
--- The main theorem: there are the policy's zones, views and areas, and with these the devices of an allowed walk pass an unambiguous packet exactly if it is
--- permitted or a reply, all of them and each by itself. The list at each managed interface is the policy's. A static router's table sends such a packet to
--- the walk's next hop: always where that is straight into the destination's network, and at every crossing where no router needs a route that isn't written.
+-- The main theorem: there are the policy's zones, views and areas, no network is translated in its own zone, and with these the devices of an allowed
+-- walk pass an unambiguous packet exactly if it is permitted or a reply, all of them and each by itself, and the list by which it enters passes a reply only
+-- at a router without state. The list at each managed interface is the policy's. Where a walk leaves a static router straight into the destination's network,
+-- the router's table sends such a packet there; of other crossings nothing is claimed until routes are written.
 pub record DecidesExactly (p : Policy) (configs : List Config) : Type 0 where
   pub meaning : Meaning
   pub is_its : IsMeaning p meaning
+  pub inside : TranslatesNoneInside meaning
   pub walks : WalksPass meaning configs
   pub devices : DevicesPass meaning configs
+  pub entering : ListsPass meaning configs
   pub lists : (i : ℕ) → i < length p.ifaces → IsTrue (is_managed p (router_at p i)) → list_in p configs i ≡ list_at meaning.site meaning.views (permits_in meaning) i
   pub direct : TablesSendDirect meaning configs
-  pub tables : IsRoutedBy meaning configs → TablesSend meaning configs

@@ -10,7 +10,7 @@ use Rattle.policy_model.specs.Filters.{Line}
 use Rattle.policy_model.specs.Blocks.{list_at}
 use Rattle.policy_model.specs.FirstFault.{FaultCase}
 use Rattle.policy_model.specs.Headline.{Meaning, permits_in}
-use Rattle.fault_laws.specs.Cases.{first_of, split_case, conflict_case, twice_case, inside_case, views_case, same_case, managed_case, permits_case, path_case, lines_case}
+use Rattle.fault_laws.specs.Cases.{first_of, split_case, conflict_case, twice_case, inside_case, views_case, same_case, managed_case, permits_case, path_case, hidden_case, lines_case}
 use Rattle.shadow_laws.specs.Shadows.{shadow_case}
 use Rattle.fault_text.specs.Cases.{case_line}
 use Rattle.policy_outcome.specs.Files.{files_for, line_total}
@@ -76,7 +76,7 @@ abbrev pub service_case : Meaning → Option FaultCase
 service_case m = first_of (managed_case m ∷ permits_case m ∷ [])
 
 abbrev pub walk_case : Meaning → Option FaultCase
-walk_case m = first_of (path_case m ∷ lines_case m ∷ [])
+walk_case m = first_of (path_case m ∷ hidden_case m ∷ lines_case m ∷ [])
 
 module _ (m : Meaning) where
   -- the outcome where areas, tags, views and services have no fault

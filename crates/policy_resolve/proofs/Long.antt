@@ -3,7 +3,7 @@ use Rattle.std.proofs.Common.{◌≡◌, ◌∙◌, refl, sym, ap, Bool, true, f
 use Rattle.std.specs.List.{list_any}
 use Rattle.std.proofs.lemmas.List.Folds.{list_any-append}
 use Rattle.std.proofs.lemmas.Grind.{flat_map-append}
-use Rattle.spoc_ast.specs.Written.{Lexeme, IfPartText, IfIp, IfHardware, IfBindNat, IfIdle, RoutPartText, RoutManaged, RoutModel, RoutRouting, RoutIface, RoutIdle, DeclText, NetworkDecl, RouterDecl, GroupDecl, AreaDecl, AggregateDecl, ProtocolDecl, ProtocolGroupDecl, RestrictionDecl, ServiceDecl}
+use Rattle.spoc_ast.specs.Written.{Lexeme, IfPartText, IfIp, IfHardware, IfBindNat, IfVirtual, IfIdle, RoutPartText, RoutManaged, RoutModel, RoutRouting, RoutIface, RoutIdle, DeclText, NetworkDecl, RouterDecl, GroupDecl, AreaDecl, AggregateDecl, ProtocolDecl, ProtocolGroupDecl, RestrictionDecl, ServiceDecl}
 use Rattle.policy_decls.specs.Names.{names_in, declared_names}
 use Rattle.policy_decls.specs.Lookup.{hardware_in, ifaces_in_part, ifaces_in, declared_ifaces, iface_hardware, is_managed_router}
 use Rattle.policy_decls.specs.Limits as plain
@@ -27,6 +27,7 @@ in_if_part : (part : IfPartText) → list_any is_long_lexeme (hardware_in part) 
 in_if_part (IfIp address) = refl
 in_if_part (IfHardware hardware) = or_false (is_long_lexeme hardware)
 in_if_part (IfBindNat tags) = refl
+in_if_part (IfVirtual parts) = refl
 in_if_part (IfIdle idle) = refl
 
 in_if_parts : (parts : List IfPartText) → list_any is_long_lexeme (flat_map hardware_in parts) ≡ list_any is_long_part parts

@@ -1,7 +1,7 @@
 -- Words that are too long, where they stand.
 use Rattle.std.specs.Prelude.{ℕ, Bool, false, ◌||◌, nat_lt, List, length}
 use Rattle.std.specs.List.{list_any}
-use Rattle.spoc_ast.specs.Written.{IfPartText, IfIp, IfHardware, IfBindNat, IfIdle, RoutPartText, RoutManaged, RoutModel, RoutRouting, RoutIface, RoutIdle, DeclText, NetworkDecl, RouterDecl, GroupDecl, AreaDecl, AggregateDecl, ProtocolDecl, ProtocolGroupDecl, RestrictionDecl, ServiceDecl}
+use Rattle.spoc_ast.specs.Written.{IfPartText, IfIp, IfHardware, IfBindNat, IfVirtual, IfIdle, RoutPartText, RoutManaged, RoutModel, RoutRouting, RoutIface, RoutIdle, DeclText, NetworkDecl, RouterDecl, GroupDecl, AreaDecl, AggregateDecl, ProtocolDecl, ProtocolGroupDecl, RestrictionDecl, ServiceDecl}
 use Rattle.policy_decls.specs.Names.{Mention, names_in}
 
 abbrev pub is_long : List ℕ → Bool
@@ -15,6 +15,7 @@ abbrev pub is_long_part : IfPartText → Bool
 is_long_part (IfIp address) = false
 is_long_part (IfHardware hardware) = is_long hardware.text
 is_long_part (IfBindNat tags) = false
+is_long_part (IfVirtual parts) = false
 is_long_part (IfIdle idle) = false
 
 -- the part is an interface with such hardware

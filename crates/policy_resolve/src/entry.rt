@@ -2,6 +2,7 @@ ghost use Rattle.std.specs.Prelude.{◌≡◌, Some, None, IfOk, IfErr, IsTrue};
 ghost use Rattle.policy_decls.specs.Faults.{fault_of};
 ghost use Rattle.policy_decls.specs.Formed.{are_formed};
 ghost use Rattle.policy_decls.specs.Said.{policy_said};
+ghost use Rattle.policy_decls.specs.Spelled.{are_spelled};
 ghost use Rattle.policy_names.specs.Seen.{decls_of};
 ghost use Rattle.topology.specs.First.{IsRefusalOf};
 ghost use Rattle.topology.specs.View.{policy_of, sources_of};
@@ -19,8 +20,9 @@ use topology::Topo;
 /// have: a name that is declared twice, a name that is used and isn't declared, a group that
 /// reaches itself, what must not stand in a declaration, a limit that is passed, in this order.
 ///
-/// Each word for an address, a prefix, a range, ports or a number is one, and the names that are
-/// declared stand in the sources: the parser sees to both. A refusal for want of memory comes also
+/// Each word for an address, a prefix, a range, ports or a number is one, names and hardware are of
+/// letters, digits and `_ . : / -`, and the names that are declared stand in the sources: the
+/// parser sees to all that. A refusal for want of memory comes also
 /// where 2^32 names are declared, or a rule has more than 4,000,000 boxes.
 pub fn resolve<'a>(
     alloc: Global,
@@ -29,6 +31,7 @@ pub fn resolve<'a>(
     files: &[File<'a>],
 ) -> Result<Topo<'a>, Refusal>
     requires formed { IsTrue (are_formed (decls_of files.now)) }
+    requires spelled { IsTrue (are_spelled (decls_of files.now)) }
     requires words { AreWordsOf sources.now (decls_of files.now) }
     ensures policy { IfOk result (λ topo. policy_of topo ≡ policy_said (decls_of files.now)) }
     ensures sources { IfOk result (λ topo. sources_of topo ≡ sources.entry.now) }

@@ -6,7 +6,5 @@ mod entry;
 mod faults;
 mod lengths;
 mod limits;
-#[cfg(test)]
-mod tests;
 
 pub use entry::resolve;

@@ -5,14 +5,14 @@ use Rattle.std.specs.List.{list_any}
 use Rattle.spoc_ast.specs.Written.{Lexeme}
 use Rattle.policy_decls.specs.Lookup.{IfaceText, iface_addresses, iface_hardware}
 use Rattle.policy_decls.specs.Shapes.{same_texts, share, clash_with, has_address_of, has_hardware_of}
-use Rattle.policy_shapes.specs.Keys.{Key, key, word_key, has_key, clash_known, address_keys, hardware_keys, hardware_asked, tag_key}
+use Rattle.policy_shapes.specs.Keys.{Key, word_key, has_key, clash_known, address_keys, hardware_keys, hardware_asked, tag_key}
 use Rattle.policy_shapes.proofs.Known.{any_none, clash_is}
 
-any_and : {A : Type 0} (b : Bool) (p : A → Bool) (xs : List A) → list_any (λ x. b && p x) xs ≡ (b && list_any p xs)
+pub any_and : {A : Type 0} (b : Bool) (p : A → Bool) (xs : List A) → list_any (λ x. b && p x) xs ≡ (b && list_any p xs)
 any_and true p xs = refl
 any_and false p xs = any_none xs
 
-one_shared : (n m : List ℕ) (v : Lexeme) (ws : List Lexeme) → has_key (map (word_key m) ws) (word_key n v) ≡ (bytes_eq n m && list_any (same_texts v) ws)
+pub one_shared : (n m : List ℕ) (v : Lexeme) (ws : List Lexeme) → has_key (map (word_key m) ws) (word_key n v) ≡ (bytes_eq n m && list_any (same_texts v) ws)
 one_shared n m v ws = mapped ws ∙ any_and (bytes_eq n m) (same_texts v) ws
   where
     mapped : (ws : List Lexeme) → has_key (map (word_key m) ws) (word_key n v) ≡ list_any (λ w. bytes_eq n m && same_texts v w) ws

@@ -9,7 +9,7 @@ use Rattle.spoc_ast.specs.declared.decl.Decl.{Decl}
 use Rattle.spoc_ast.specs.Seen.{decl_seen}
 use Rattle.policy_decls.specs.Names.{names_in, shown_at}
 use Rattle.policy_decls.specs.Lookup.{IfaceText, ifaces_in, declared_ifaces}
-use Rattle.policy_decls.specs.Shapes.{first_true, shape_in, shape_at, is_bad_device, is_bad_iface, is_outside, clash_with, has_hardware_of, is_bad_binding}
+use Rattle.policy_decls.specs.Shapes.{first_true, shape_in, shape_at, is_bad_device, is_bad_iface, is_outside, clash_with, has_hardware_of, is_bad_binding, is_bad_shared}
 use Rattle.policy_decls.specs.Faults.{name_of_decl, first_shape}
 use Rattle.policy_shapes.specs.Keys.{Key, has_key, with_keys, address_keys}
 use Rattle.policy_shapes.specs.Rows.{shape_by, router_ifaces, decl_keys, or_rest, first_by}
@@ -23,7 +23,7 @@ module _ (all : List DeclText) (earlier : List IfaceText) (has : Key → Bool) (
   shape_known (NetworkDecl name desc parts) = refl
   shape_known (RouterDecl name desc parts) =
       let ifaces = router_ifaces name parts in
-      ap (λ b. first_true ((6, is_bad_device parts) ∷ (7, list_any is_bad_iface ifaces) ∷ (8, list_any (is_outside all) ifaces) ∷ (9, b) ∷ (10, clash_with has_hardware_of [] ifaces) ∷ (11, list_any is_bad_binding ifaces) ∷ []))
+      ap (λ b. first_true ((6, is_bad_device parts) ∷ (7, list_any is_bad_iface ifaces) ∷ (8, list_any (is_outside all) ifaces) ∷ (9, b) ∷ (10, clash_with has_hardware_of [] ifaces) ∷ (11, list_any is_bad_binding ifaces) ∷ (15, list_any (is_bad_shared all) ifaces) ∷ []))
       (addresses_clash earlier has known ifaces)
   shape_known (GroupDecl name desc objects) = refl
   shape_known (AreaDecl name desc parts) = refl

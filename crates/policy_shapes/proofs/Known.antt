@@ -1,9 +1,9 @@
 -- Sets of names with some more, and clashes by them.
-use Rattle.std.proofs.Common.{arith, ◌≡◌, ◌∙◌, refl, sym, ap, subst, ℕ, ◌+◌, ◌<◌, ◌≤◌, Bool, true, false, not, ◌&&◌, ◌||◌, cond, List, [], ◌∷◌, ◌++◌, length, map, flat_map, drop, get_or, append-nil, add-one, drop-cons}
+use Rattle.std.proofs.Common.{◌≡◌, ◌∙◌, refl, sym, ap, ℕ, ◌+◌, ◌<◌, ◌≤◌, Bool, true, false, not, ◌&&◌, ◌||◌, cond, List, [], ◌∷◌, ◌++◌, length, map, flat_map, drop, get_or, append-nil, add-one, drop-cons}
 use Rattle.std.specs.Prelude.{Result, Ok, Err, IfOk, OnOk}
 use Rattle.std.specs.Str.{bytes_eq}
 use Rattle.std.specs.List.{list_any}
-use Rattle.std.proofs.lemmas.List.{drop_all}
+use Rattle.std.proofs.lemmas.List.{drop_all, map-append}
 use Rattle.std.proofs.lemmas.List.Folds.{list_any-append}
 use Rattle.std.proofs.lemmas.Grind.{flat_map-append}
 use Rattle.std.proofs.lemmas.Slice.Eq.{bytes_eq-Decides}
@@ -66,6 +66,9 @@ ok_added (Err x) keys now k e f = tt
 
 -- ---- a walk over items that give names
 
+pub keys_more : {A B : Type 0} (f : A → List B) (key_of : B → Key) (x : A) (xs : List A) → map key_of (flat_map f (x ∷ xs)) ≡ map key_of (f x) ++ map key_of (flat_map f xs)
+keys_more f key_of x xs = map-append key_of (f x) (flat_map f xs)
+
 module _ {A B : Type 0} (seen : B → A) (xs : List B) (i : ℕ) (d : B) (within : i < length xs) where
   head : map seen (drop i xs) ≡ seen (get_or xs i d) ∷ map seen (drop (i + 1) xs)
   head = rw (add-one, drop-cons xs i d within) refl
@@ -84,6 +87,12 @@ module _ {A B : Type 0} (seen : B → A) (xs : List B) (i : ℕ) (d : B) (within
     clash_step now e n =
         ap (λ f. clash_known asks gives f (map seen (drop (i + 1) xs))) n
         ∙ ap (λ b. b || clash_known asks gives (with_keys has (gives (seen (get_or xs i d)))) (map seen (drop (i + 1) xs))) (sym e) ∙ ap (clash_known asks gives has) (sym head) ∙ known
+
+-- one more item, which gives the keys of some of its words
+pub known_more : {A B C : Type 0} (f : A → List C) (key_of : C → Key) (seen : B → A) (xs : List B) (i : ℕ) (d : B) → i < length xs → (has now goal : Key → Bool) → now ≡ with_keys has (map key_of (f (seen (get_or xs i d))))
+    → with_keys has (map key_of (flat_map f (map seen (drop i xs)))) ≡ goal → with_keys now (map key_of (flat_map f (map seen (drop (i + 1) xs)))) ≡ goal
+known_more f key_of seen xs i d within has now goal e h =
+    known_step seen xs i d within (λ items. map key_of (flat_map f items)) has now goal (map key_of (f (seen (get_or xs i d)))) (keys_more f key_of (seen (get_or xs i d)) (map seen (drop (i + 1) xs))) e h
 
 pub known_end : {A B : Type 0} (seen : B → A) (xs : List B) (i : ℕ) (keys : List A → List Key) (has goal : Key → Bool) → length xs ≤ i → keys [] ≡ [] → with_keys has (keys (map seen (drop i xs))) ≡ goal → has ≡ goal
 known_end seen xs i keys has goal l e h = sym (with_none has) ∙ ap (with_keys has) (sym e) ∙ ap (λ ys. with_keys has (keys (map seen ys))) (sym (drop_all i xs l)) ∙ h

@@ -1,19 +1,27 @@
 -- Lists with one item, and lists that are seen item by item.
-use Rattle.std.proofs.Common.{arith, ◌≡◌, ◌∙◌, refl, sym, ap, ℕ, ◌+◌, ◌<◌, ◌≤◌, Bool, true, false, ◌||◌, List, [], ◌∷◌, length, map, flat_map, drop, get_or, Option, None, add-one, drop-cons}
+use Rattle.std.proofs.Common.{arith, ◌≡◌, ◌∙◌, refl, sym, ap, ℕ, ◌+◌, ◌<◌, ◌==◌, Bool, true, false, ◌||◌, List, [], ◌∷◌, ◌++◌, length, map, drop, get_or, slice_get, None, add-one, drop-cons}
 use Rattle.std.specs.List.{list_any}
-use Rattle.spoc_ast.specs.Seen.{nat_part_seen}
-use Rattle.spoc_ast.specs.declared.decl.NatPart.{NatPart}
-use Rattle.spoc_ast.specs.declared.decl.NatPart.TheVariants as nat_part
-use Rattle.policy_decls.specs.Lookup.{only_one, ips_in_nat_part}
+use Rattle.std.proofs.lemmas.List.Folds.{list_any-append}
+use Rattle.policy_model.specs.Lists.{is_nothing}
+use Rattle.policy_decls.specs.Lookup.{only_one}
 
-pub only_none : {A B : Type 0} (f : A → B) (xs : List A) → 2 ≤ length xs → only_one (map f xs) ≡ None
-only_none f [] h = absurd (omega arith)
-only_none f (x ∷ []) h = absurd (omega arith)
-only_none f (x ∷ y ∷ xs) h = refl
+-- the only item is the first one
+pub only_first : {A : Type 0} (xs : List A) → length xs ≡ 1 → only_one xs ≡ slice_get xs 0
+only_first [] h = refl
+only_first (x ∷ []) h = refl
+only_first (x ∷ y ∷ xs) h = absurd (omega arith)
 
-pub nat_prefixes : (parts : List NatPart) → length (flat_map ips_in_nat_part (map nat_part_seen parts)) ≡ length parts
-nat_prefixes [] = refl
-nat_prefixes (nat_part.Ip w ∷ parts) = let e = nat_prefixes parts in grind arith
+pub only_not : {A : Type 0} (xs : List A) (b : Bool) → (length xs == 1) ≡ b → b ≡ false → only_one xs ≡ None
+only_not [] b e f = refl
+only_not (x ∷ []) b e f = absurd (grind arith)
+only_not (x ∷ y ∷ xs) b e f = refl
+
+pub nothing_counted : {A : Type 0} (xs : List A) → is_nothing xs ≡ (length xs == 0)
+nothing_counted [] = refl
+nothing_counted (x ∷ xs) = grind arith
+
+pub any_of_both : {A : Type 0} (test : A → Bool) (xs ys : List A) → list_any test (xs ++ ys) ≡ (list_any test xs || list_any test ys)
+any_of_both test xs ys = list_any-append test xs ys
 
 -- a walk over items for the first that passes a test
 module _ {A B : Type 0} (test : A → Bool) (seen : B → A) (xs : List B) (i : ℕ) (d : B) (within : i < length xs) (goal : Bool) (known : list_any test (map seen (drop i xs)) ≡ goal) where

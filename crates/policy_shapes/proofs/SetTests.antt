@@ -1,5 +1,5 @@
 -- What is asked of the names in a set, by the slices of its nodes.
-use Rattle.std.proofs.Common.{◌≡◌, ◌∙◌, refl, sym, ap, Bool, true, false, ◌||◌, List, [], ◌∷◌, ◌++◌, map, flat_map, append-nil}
+use Rattle.std.proofs.Common.{◌≡◌, ◌∙◌, refl, sym, ap, Bool, true, false, ◌||◌, List, [], ◌∷◌, map, flat_map}
 use Rattle.std.specs.List.{list_any}
 use Rattle.std.proofs.lemmas.List.Folds.{list_any-append}
 use Rattle.spoc_ast.specs.Written.{SetText, DeclText, Joining, Keeping, Leaving, NoParts}
@@ -8,7 +8,7 @@ use Rattle.spoc_ast.specs.declared.set.InterTree.{InterTree, out-InterTree}
 use Rattle.spoc_ast.specs.declared.set.FurtherTree.{FurtherTree}
 use Rattle.spoc_ast.specs.Seen.{set_seen, inter_seen, term_seen, joined, narrowed, narrowing}
 use Rattle.spoc_ast.proofs.Rows.{sets, parts}
-use Rattle.policy_decls.specs.Shapes.{is_unaligned, asked_in, says_user, is_bare_port, ports_in, sets_in_rule, ask_unaligned, name_bare_port}
+use Rattle.policy_decls.specs.Shapes.{is_unaligned, asked_in, says_user, is_bare_port, ports_in, ask_unaligned, name_bare_port}
 use Rattle.policy_shapes.specs.Sets.{asks_unaligned, names_bare}
 
 -- a test of sets that holds of a set where it holds of a part

@@ -1,11 +1,11 @@
 -- What is looked up in the declarations of a policy.
-use Rattle.std.specs.Prelude.{◌≡◌, ℕ, Bool, not, ◌&&◌, List, [], ◌∷◌, map, flat_map, Option, option_and_then, if◌then◌else◌}
+use Rattle.std.specs.Prelude.{◌≡◌, Bool, not, ◌&&◌, List, [], ◌∷◌, map, flat_map, Option, option_and_then, if◌then◌else◌}
 use Rattle.spoc_base.specs.Address.{Cidr}
 use Rattle.policy_model.specs.Lists.{is_nothing}
 use Rattle.spoc_ast.specs.Written.{Lexeme, NetPartText, RoutPartText, DeclText, NetworkDecl, RouterDecl, GroupDecl, AreaDecl, AggregateDecl, ProtocolDecl, ProtocolGroupDecl, RestrictionDecl, ServiceDecl}
 use Rattle.policy_decls.specs.Names.{Mention, declared_names}
 use Rattle.policy_decls.specs.Lookup.{own_prefix, is_managed_router, IfaceText, declared_ifaces, iface_addresses}
-use Rattle.policy_shapes.specs.Keys.{Key, key, has_key}
+use Rattle.policy_shapes.specs.Keys.{Key, key, has_key, address_keys}
 
 -- a network that is declared, with its name
 abbrev pub networks_in : DeclText → List (Lexeme × List NetPartText)
@@ -47,8 +47,9 @@ abbrev pub joined : {A : Type 0} → Option (Option A) → Option A
 joined found = option_and_then (λ x. x) found
 
 -- the names and the tables are those of the declarations
-pub record IsPolicy (decls : List DeclText) (names : List Mention) (own : List (Option Cidr)) (managed : List Bool) (bare : List Key) : Type 0 where
+pub record IsPolicy (decls : List DeclText) (names : List Mention) (own : List (Option Cidr)) (managed : List Bool) (bare taken : List Key) : Type 0 where
   pub named : names ≡ declared_names decls
   pub prefixes : own ≡ own_prefixes decls
   pub flags : managed ≡ managed_flags decls
   pub bares : has_key bare ≡ has_key (flat_map bare_keys (declared_ifaces decls))
+  pub addresses : has_key taken ≡ has_key (flat_map address_keys (declared_ifaces decls))

@@ -1,18 +1,18 @@
 -- What must not stand in a declaration, by the kinds of declarations.
-use Rattle.std.specs.Prelude.{ℕ, Bool, not, ◌&&◌, ◌||◌, ◌==◌, List, [], ◌∷◌, ◌++◌, flat_map, Option, Some, None, option_map, if◌then◌else◌}
+use Rattle.std.specs.Prelude.{ℕ, Bool, not, ◌||◌, ◌==◌, List, [], ◌∷◌, flat_map, Option, Some, None, option_map, if◌then◌else◌}
 use Rattle.std.specs.List.{list_any}
 use Rattle.spoc_base.specs.Address.{Cidr, prefix_holds}
 use Rattle.spoc_base.specs.declared.place.Named.{Named}
 use Rattle.spoc_ast.specs.Written.{Lexeme, PortText, SetText, NetPartText, RoutPartText, AreaPartText, AnyPartText, SimpleText, PrtText, RuleText, DeclText, NetworkDecl, RouterDecl, GroupDecl, AreaDecl, AggregateDecl, ProtocolDecl, ProtocolGroupDecl, RestrictionDecl, ServiceDecl}
 use Rattle.policy_decls.specs.Numbers.{holds_of, address_of, prefix_of, is_bad_simple}
 use Rattle.policy_decls.specs.Names.{names_in, shown_at}
-use Rattle.policy_decls.specs.Lookup.{ips_in_nat_part, own_prefix, is_managed_router, IfaceText, ifaces_in_part, ifaces_in}
-use Rattle.policy_decls.specs.Shapes.{first_true, has_one, lacks_prefix, is_bad_host, hosts_in, nats_in, leaves, has_unaligned, has_other_length, is_unaligned, is_bad_device, is_bad_iface, is_outside, has_hardware_of, clash_with, is_bad_binding, is_bad_restriction, is_bad_prt, is_bad_area, is_bad_aggregate, ips_in_any_part, sets_in_objects, sets_in_rule, ask_unaligned, name_bare_port, lacks_user}
+use Rattle.policy_decls.specs.Lookup.{own_prefix, is_managed_router, IfaceText, ifaces_in_part, ifaces_in}
+use Rattle.policy_decls.specs.Shapes.{first_true, has_one, lacks_prefix, is_bad_host, hosts_in, nats_in, leaves, has_unaligned, has_other_length, is_unaligned, is_bad_device, is_bad_iface, is_outside, has_hardware_of, clash_with, is_bad_binding, is_bad_shared, is_bad_restriction, is_bad_prt, is_bad_area, is_bad_aggregate, ips_in_any_part, sets_in_objects, sets_in_rule, ask_unaligned, name_bare_port, lacks_user}
 use Rattle.policy_shapes.specs.Keys.{Key, with_keys, address_keys, clash_known}
 
--- a translation hasn't exactly one prefix
+-- a translation hasn't exactly one part
 abbrev pub has_bad_nat : List NetPartText → Bool
-has_bad_nat parts = list_any (λ nat. not (has_one (flat_map ips_in_nat_part nat))) (flat_map nats_in parts)
+has_bad_nat parts = list_any (λ nat. not (has_one nat)) (flat_map nats_in parts)
 
 -- a prefix has another length than the network's own
 abbrev pub other_length : Cidr → Lexeme → Bool
@@ -35,7 +35,7 @@ router_ifaces name parts = flat_map (ifaces_in_part name (is_managed_router part
 abbrev pub iface_rows : List DeclText → (Key → Bool) → List IfaceText → Option ℕ
 iface_rows decls has ifaces =
     first_true ((7, list_any is_bad_iface ifaces) ∷ (8, list_any (is_outside decls) ifaces) ∷ (9, clash_known address_keys address_keys has ifaces)
-    ∷ (10, clash_with has_hardware_of [] ifaces) ∷ (11, list_any is_bad_binding ifaces) ∷ [])
+    ∷ (10, clash_with has_hardware_of [] ifaces) ∷ (11, list_any is_bad_binding ifaces) ∷ (15, list_any (is_bad_shared decls) ifaces) ∷ [])
 
 abbrev pub router_rows : List DeclText → (Key → Bool) → Lexeme → List RoutPartText → Option ℕ
 router_rows decls has name parts = if is_bad_device parts then Some 6 else iface_rows decls has (router_ifaces name parts)

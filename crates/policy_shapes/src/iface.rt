@@ -1,10 +1,11 @@
-ghost use Rattle.std.specs.Prelude.{◌≡◌, map, flat_map, IfOk};
-ghost use Rattle.spoc_ast.specs.Seen.{word_seen, rout_part_seen};
+ghost use Rattle.std.specs.Prelude.{◌≡◌, ◌&&◌, ◌++◌, not, length, map, flat_map, IfOk, OnOk};
+ghost use Rattle.policy_model.specs.Lists.{is_nothing};
+ghost use Rattle.spoc_ast.specs.Seen.{word_seen, rout_part_seen, decl_seen};
 ghost use Rattle.policy_decls.specs.Lookup as plain;
 ghost use Rattle.policy_decls.specs.Shapes as shapes;
 ghost use Rattle.policy_shapes.specs.Seen.{iface_seen};
 
-use spoc_ast::{IfPart, RoutPart, Word};
+use spoc_ast::{Decl, IfPart, RoutPart, Word};
 use spoc_base::NoMemory;
 use std::alloc::Global;
 
@@ -30,16 +31,15 @@ pub(crate) fn is_managed(parts: &[RoutPart<'_>]) -> bool
     false
 }
 
-/// The interfaces of a router of these parts, in their order.
-pub(crate) fn ifaces<'a>(
-    alloc: Global,
+/// Adds the interfaces of a router of these parts, in their order.
+pub(crate) fn add_ifaces<'a>(
     router: Word<'a>,
     parts: &[RoutPart<'a>],
-) -> Result<Vec<Iface<'a>>, NoMemory>
-    ensures { IfOk result (λ found. map iface_seen found.items ≡ flat_map (plain.ifaces_in_part (word_seen router.entry) (plain.is_managed_router (map rout_part_seen parts.now))) (map rout_part_seen parts.now)) }
+    found: &mut Vec<Iface<'a>>,
+) -> Result<(), NoMemory>
+    ensures { OnOk result (map iface_seen found.new.items ≡ map iface_seen found.old.items ++ flat_map (plain.ifaces_in_part (word_seen router.entry) (plain.is_managed_router (map rout_part_seen parts.now))) (map rout_part_seen parts.now)) }
 {
     let managed = is_managed(parts);
-    let mut found = Vec::new(alloc);
     for part in parts {
         if let RoutPart::Iface { name, parts } = part {
             found.push(Iface {
@@ -50,60 +50,108 @@ pub(crate) fn ifaces<'a>(
             })?;
         }
     }
+    Ok(())
+}
+
+/// The interfaces of all declarations, in their order.
+pub(crate) fn all_ifaces<'a>(alloc: Global, decls: &[Decl<'a>]) -> Result<Vec<Iface<'a>>, NoMemory>
+    ensures { IfOk result (λ found. map iface_seen found.items ≡ plain.declared_ifaces (map decl_seen decls.now)) }
+{
+    let mut found = Vec::new(alloc);
+    for decl in decls {
+        add_decl_ifaces(decl, &mut found)?;
+    }
     Ok(found)
 }
 
+fn add_decl_ifaces<'a>(decl: &Decl<'a>, found: &mut Vec<Iface<'a>>) -> Result<(), NoMemory>
+    ensures { OnOk result (map iface_seen found.new.items ≡ map iface_seen found.old.items ++ plain.ifaces_in (decl_seen decl.now)) }
+{
+    match decl {
+        Decl::Router { name, parts, .. } => add_ifaces(*name, parts, found),
+        Decl::Network { .. }
+        | Decl::Group { .. }
+        | Decl::Area { .. }
+        | Decl::Aggregate { .. }
+        | Decl::Protocol { .. }
+        | Decl::ProtocolGroup { .. }
+        | Decl::Restriction { .. }
+        | Decl::Service { .. } => Ok(()),
+    }
+}
+
 impl<'a> Iface<'a> {
-    /// The addresses that stand in it.
-    pub(crate) fn addresses(&self, alloc: Global) -> Result<Vec<Word<'a>>, NoMemory>
-        ensures { IfOk result (λ found. map word_seen found.items ≡ plain.iface_addresses (iface_seen self.now)) }
+    /// How many addresses stand in it.
+    pub(crate) fn address_count(&self) -> usize
+        ensures { result ≡ length (plain.iface_addresses (iface_seen self.now)) }
     {
-        let mut found = Vec::new(alloc);
+        let mut count = 0;
         for part in self.parts {
-            if let IfPart::Ip(word) = part {
-                found.push(*word)?;
+            if let IfPart::Ip(_) = part {
+                count += 1;
             }
         }
-        Ok(found)
+        count
     }
 
-    /// The names of hardware that stand in it.
-    pub(crate) fn hardware(&self, alloc: Global) -> Result<Vec<Word<'a>>, NoMemory>
-        ensures { IfOk result (λ found. map word_seen found.items ≡ plain.iface_hardware (iface_seen self.now)) }
+    /// How many names of hardware stand in it.
+    pub(crate) fn hardware_count(&self) -> usize
+        ensures { result ≡ length (plain.iface_hardware (iface_seen self.now)) }
     {
-        let mut found = Vec::new(alloc);
+        let mut count = 0;
         for part in self.parts {
-            if let IfPart::Hardware(word) = part {
-                found.push(*word)?;
+            if let IfPart::Hardware(_) = part {
+                count += 1;
             }
         }
-        Ok(found)
+        count
     }
 
-    /// The tags of each of its parts that bind some.
-    pub(crate) fn binds(&self, alloc: Global) -> Result<Vec<&'a [Word<'a>]>, NoMemory>
-        ensures { IfOk result (λ found. map (λ tags. map word_seen tags.now) found.items ≡ plain.iface_binds (iface_seen self.now)) }
+    /// How many of its parts bind tags.
+    pub(crate) fn bind_count(&self) -> usize
+        ensures { result ≡ length (plain.iface_binds (iface_seen self.now)) }
     {
-        let mut found = Vec::new(alloc);
+        let mut count = 0;
         for part in self.parts {
-            if let IfPart::BindNat(tags) = part {
-                found.push(*tags)?;
+            if let IfPart::BindNat(_) = part {
+                count += 1;
             }
         }
-        Ok(found)
+        count
+    }
+
+    /// How many addresses it shares with others.
+    pub(crate) fn virtual_count(&self) -> usize
+        ensures { result ≡ length (shapes.iface_virtuals (iface_seen self.now)) }
+    {
+        let mut count = 0;
+        for part in self.parts {
+            if let IfPart::Virtual(_) = part {
+                count += 1;
+            }
+        }
+        count
     }
 
     /// Whether `ip`, `hardware` or `bind_nat` stands in it twice, or its router is managed and it
     /// lacks an address or hardware.
-    pub(crate) fn is_bad(&self, alloc: Global) -> Result<bool, NoMemory>
-        ensures { IfOk result (λ bad. bad ≡ shapes.is_bad_iface (iface_seen self.now)) }
+    #[tactic(auto, using(crate::proofs::Lists::nothing_counted))]
+    pub(crate) fn is_bad(&self) -> bool
+        ensures { result ≡ shapes.is_bad_iface (iface_seen self.now) }
     {
-        let addresses = self.addresses(alloc)?;
-        let hardware = self.hardware(alloc)?;
-        let binds = self.binds(alloc)?;
-        if addresses.len() > 1 || hardware.len() > 1 || binds.len() > 1 {
-            return Ok(true);
+        let addresses = self.address_count();
+        let hardware = self.hardware_count();
+        if addresses > 1 || hardware > 1 || self.bind_count() > 1 {
+            return true;
         }
-        Ok(self.managed && (addresses.is_empty() || hardware.is_empty()))
+        self.managed && (addresses == 0 || hardware == 0)
+    }
+
+    /// Whether its router isn't managed and it has no address.
+    #[tactic(auto, using(crate::proofs::Lists::nothing_counted))]
+    pub(crate) fn is_bare(&self) -> bool
+        ensures { result ≡ (not (iface_seen self.now).managed && is_nothing (plain.iface_addresses (iface_seen self.now))) }
+    {
+        !self.managed && self.address_count() == 0
     }
 }

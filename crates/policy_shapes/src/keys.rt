@@ -1,10 +1,7 @@
-ghost use Rattle.std.specs.Prelude.{◌≡◌, not, [], ◌∷◌, ◌++◌, map, if◌then◌else◌, IfOk, OnOk};
-ghost use Rattle.std.specs.List.{list_any};
-ghost use Rattle.spoc_ast.specs.Seen.{word_seen};
-ghost use Rattle.policy_shapes.specs.Keys.{same_key, key, word_key, has_key, with_keys};
+ghost use Rattle.std.specs.Prelude.{◌≡◌, not, [], ◌∷◌, ◌++◌, if◌then◌else◌, IfOk, OnOk};
+ghost use Rattle.policy_shapes.specs.Keys.{key, has_key, with_keys};
 
 use indexmap::IndexSet;
-use spoc_ast::Word;
 use spoc_base::NoMemory;
 use std::alloc::Global;
 use std::marker::Model;
@@ -55,27 +52,5 @@ impl<'a> Keys<'a> {
         ensures names { OnOk result (has_key self.new ≡ with_keys (has_key self.old) (key owner.now text.now ∷ [])) }
     {
         self.insert(owner, text)
-    }
-
-    /// Whether one of the words is in the set, as a name of this owner.
-    pub(crate) fn holds_any(&self, owner: &[u8], words: &[Word<'_>]) -> bool
-        ensures { result ≡ list_any (has_key self.now) (map (word_key owner.now) (map word_seen words.now)) }
-    {
-        for word in words {
-            if self.holds(owner, word.text) {
-                return true;
-            }
-        }
-        false
-    }
-
-    /// Adds the words, as names of this owner.
-    pub(crate) fn add_all(&mut self, owner: &'a [u8], words: &[Word<'a>]) -> Result<(), NoMemory>
-        ensures { OnOk result (has_key self.new ≡ with_keys (has_key self.old) (map (word_key owner.now) (map word_seen words.now))) }
-    {
-        for word in words {
-            self.add(owner, word.text)?;
-        }
-        Ok(())
     }
 }

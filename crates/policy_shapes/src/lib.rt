@@ -17,8 +17,7 @@ mod router;
 mod service;
 mod sets;
 pub mod shapes;
-#[cfg(test)]
-mod tests;
+mod shared;
 mod word;
 
 pub use shapes::first_shape;

@@ -1,4 +1,4 @@
-ghost use Rattle.std.specs.Prelude.{◌≡◌, ◌++◌, not, nat_lt, ◌==◌, map, flat_map, option_map, IfOk, OnOk};
+ghost use Rattle.std.specs.Prelude.{◌≡◌, ◌<◌, not, nat_lt, ◌==◌, length, map, flat_map, option_map, slice_get, IfOk};
 ghost use Rattle.std.specs.List.{list_any};
 ghost use Rattle.spoc_base.specs.Address.{addresses, interval_covers};
 ghost use Rattle.spoc_ast.specs.Seen.{word_seen, net_part_seen, nat_part_seen, host_part_seen};
@@ -10,7 +10,7 @@ ghost use Rattle.policy_shapes.specs.Seen.{block_seen, listed};
 ghost use Rattle.policy_shapes.specs.Rows.{network_rows, has_bad_nat, other_length};
 
 use crate::block::Block;
-use crate::word::{any_unaligned, block, only_block};
+use crate::word::{block, is_unaligned};
 use policy_numbers::{address, range};
 use spoc_ast::{HostPart, NatPart, NetPart, Word};
 use spoc_base::{Addr, NoMemory};
@@ -20,71 +20,63 @@ use std::alloc::Global;
 pub(crate) fn network_shape(alloc: Global, parts: &[NetPart<'_>]) -> Result<Option<u8>, NoMemory>
     ensures { IfOk result (λ shape. shape ≡ network_rows (map net_part_seen parts.now)) }
 {
-    let prefixes = own_prefixes(alloc, parts)?;
-    if prefixes.len() != 1 || has_bad_nat(parts) {
+    if prefix_count(parts) != 1 || has_bad_nat(parts) {
         return Ok(Some(1));
     }
-    let hosts = hosts(alloc, parts)?;
-    if any_bad_host(alloc, &hosts)? {
+    if any_bad_host(alloc, parts)? {
         return Ok(Some(2));
     }
-    let own = only_block(&prefixes);
-    if any_host_leaves(alloc, own, &hosts)? {
+    let own = own_prefix(parts);
+    if any_host_leaves(alloc, own, parts)? {
         return Ok(Some(3));
     }
-    let translations = translations(alloc, parts)?;
-    if any_unaligned(&prefixes) || any_unaligned(&translations) {
+    if own_unaligned(parts) || nats_unaligned(parts) {
         return Ok(Some(4));
     }
-    if any_other_length(own, &translations) {
+    if any_other_length(own, parts) {
         return Ok(Some(5));
     }
     Ok(None)
 }
 
-/// The prefixes of a network itself.
-pub(crate) fn own_prefixes<'a>(
-    alloc: Global,
-    parts: &[NetPart<'a>],
-) -> Result<Vec<Word<'a>>, NoMemory>
-    ensures { IfOk result (λ found. map word_seen found.items ≡ flat_map plain.ips_in_net_part (map net_part_seen parts.now)) }
+// How many prefixes of its own a network has.
+fn prefix_count(parts: &[NetPart<'_>]) -> usize
+    ensures { result ≡ length (flat_map plain.ips_in_net_part (map net_part_seen parts.now)) }
 {
-    let mut found = Vec::new(alloc);
+    let mut count = 0;
+    for part in parts {
+        if let NetPart::Ip(_) = part {
+            count += 1;
+        }
+    }
+    count
+}
+
+fn first_prefix<'a>(parts: &[NetPart<'a>]) -> Option<Word<'a>>
+    ensures { option_map word_seen result ≡ slice_get (flat_map plain.ips_in_net_part (map net_part_seen parts.now)) 0 }
+{
     for part in parts {
         if let NetPart::Ip(word) = part {
-            found.push(*word)?;
+            return Some(*word);
         }
     }
-    Ok(found)
+    None
 }
 
-// The prefixes of the network's translations.
-fn translations<'a>(alloc: Global, parts: &[NetPart<'a>]) -> Result<Vec<Word<'a>>, NoMemory>
-    ensures { IfOk result (λ found. map word_seen found.items ≡ flat_map plain.ips_in_nats (map net_part_seen parts.now)) }
+/// A network's own prefix, where it has exactly one.
+pub(crate) fn own_prefix(parts: &[NetPart<'_>]) -> Option<Block>
+    ensures { option_map block_seen result ≡ plain.own_prefix (map net_part_seen parts.now) }
 {
-    let mut found = Vec::new(alloc);
-    for part in parts {
-        if let NetPart::Nat { parts, .. } = part {
-            add_prefixes(parts, &mut found)?;
-        }
+    if prefix_count(parts) != 1 {
+        return None;
     }
-    Ok(found)
+    let word = first_prefix(parts)?;
+    block(&word)
 }
 
-fn add_prefixes<'a>(parts: &[NatPart<'a>], found: &mut Vec<Word<'a>>) -> Result<(), NoMemory>
-    ensures { OnOk result (map word_seen found.new.items ≡ map word_seen found.old.items ++ flat_map plain.ips_in_nat_part (map nat_part_seen parts.now)) }
-{
-    for part in parts {
-        let NatPart::Ip(word) = part;
-        found.push(*word)?;
-    }
-    Ok(())
-}
-
-// Whether a translation hasn't exactly one prefix.
-#[tactic(auto, using(crate::proofs::Lists::nat_prefixes))]
+// Whether a translation has no part or more than one.
 fn is_bad_nat(parts: &[NatPart<'_>]) -> bool
-    ensures { result ≡ not (shapes.has_one (flat_map plain.ips_in_nat_part (map nat_part_seen parts.now))) }
+    ensures { result ≡ not (shapes.has_one (map nat_part_seen parts.now)) }
 {
     parts.len() != 1
 }
@@ -102,19 +94,6 @@ fn has_bad_nat(parts: &[NetPart<'_>]) -> bool
     false
 }
 
-// The parts of each host of the network.
-fn hosts<'a>(alloc: Global, parts: &[NetPart<'a>]) -> Result<Vec<&'a [HostPart<'a>]>, NoMemory>
-    ensures { IfOk result (λ found. map (λ host. map host_part_seen host.now) found.items ≡ flat_map shapes.hosts_in (map net_part_seen parts.now)) }
-{
-    let mut found = Vec::new(alloc);
-    for part in parts {
-        if let NetPart::Host { parts, .. } = part {
-            found.push(*parts)?;
-        }
-    }
-    Ok(found)
-}
-
 // What a part of a host says: one address, as both ends, or the ends of a range.
 fn span(alloc: Global, part: &HostPart<'_>) -> Result<Option<(Addr, Addr)>, NoMemory>
     ensures { IfOk result (λ span. listed (option_map range_seen span) ≡ shapes.spans_in (host_part_seen part.now)) }
@@ -129,73 +108,76 @@ fn span(alloc: Global, part: &HostPart<'_>) -> Result<Option<(Addr, Addr)>, NoMe
     }
 }
 
-// The addresses and ranges of a host.
-fn spans(alloc: Global, host: &[HostPart<'_>]) -> Result<Vec<(Addr, Addr)>, NoMemory>
-    ensures { IfOk result (λ found. map range_seen found.items ≡ flat_map shapes.spans_in (map host_part_seen host.now)) }
+// How many addresses and ranges a host has.
+fn span_count(alloc: Global, host: &[HostPart<'_>]) -> Result<usize, NoMemory>
+    ensures { IfOk result (λ count. count ≡ length (flat_map shapes.spans_in (map host_part_seen host.now))) }
 {
-    let mut found = Vec::new(alloc);
+    let mut count = 0;
     for part in host {
-        if let Some(span) = span(alloc, part)? {
-            found.push(span)?;
+        if let Some(_) = span(alloc, part)? {
+            count += 1;
         }
     }
-    Ok(found)
+    Ok(count)
 }
 
 // Whether a range's first address is above its last.
-fn any_reversed(spans: &[(Addr, Addr)]) -> bool
-    ensures { result ≡ list_any (λ r. nat_lt r.1 r.0) (map range_seen spans.now) }
+fn any_reversed(alloc: Global, host: &[HostPart<'_>]) -> Result<bool, NoMemory>
+    ensures { IfOk result (λ bad. bad ≡ list_any (λ r. nat_lt r.1 r.0) (flat_map shapes.spans_in (map host_part_seen host.now))) }
 {
-    for (low, high) in spans {
-        if high.0 < low.0 {
-            return true;
-        }
-    }
-    false
-}
-
-// Whether a range is no part of the prefix.
-fn any_outside(block: Block, spans: &[(Addr, Addr)]) -> bool
-    ensures { result ≡ list_any (λ r. not (interval_covers (addresses (block_seen block)) (shapes.interval_in r))) (map range_seen spans.now) }
-{
-    for (low, high) in spans {
-        if !block.covers(*low, *high) {
-            return true;
-        }
-    }
-    false
-}
-
-fn is_bad_host(alloc: Global, host: &[HostPart<'_>]) -> Result<bool, NoMemory>
-    ensures { IfOk result (λ bad. bad ≡ shapes.is_bad_host (map host_part_seen host.now)) }
-{
-    let spans = spans(alloc, host)?;
-    Ok(spans.len() != 1 || any_reversed(&spans))
-}
-
-fn any_bad_host(alloc: Global, hosts: &[&[HostPart<'_>]]) -> Result<bool, NoMemory>
-    ensures { IfOk result (λ bad. bad ≡ list_any shapes.is_bad_host (map (λ host. map host_part_seen host.now) hosts.now)) }
-{
-    for host in hosts {
-        if is_bad_host(alloc, host)? {
+    for part in host {
+        if let Some((low, high)) = span(alloc, part)?
+            && high.0 < low.0
+        {
             return Ok(true);
         }
     }
     Ok(false)
 }
 
-fn leaves(alloc: Global, own: Block, host: &[HostPart<'_>]) -> Result<bool, NoMemory>
-    ensures { IfOk result (λ bad. bad ≡ shapes.leaves (block_seen own) (map host_part_seen host.now)) }
+// Whether an address or a range is no part of the prefix.
+fn any_outside(alloc: Global, block: Block, host: &[HostPart<'_>]) -> Result<bool, NoMemory>
+    ensures { IfOk result (λ bad. bad ≡ list_any (λ r. not (interval_covers (addresses (block_seen block)) (shapes.interval_in r))) (flat_map shapes.spans_in (map host_part_seen host.now))) }
 {
-    let spans = spans(alloc, host)?;
-    Ok(any_outside(own.aligned(), &spans))
+    for part in host {
+        if let Some((low, high)) = span(alloc, part)?
+            && !block.covers(low, high)
+        {
+            return Ok(true);
+        }
+    }
+    Ok(false)
 }
 
-fn any_leaves(alloc: Global, own: Block, hosts: &[&[HostPart<'_>]]) -> Result<bool, NoMemory>
-    ensures { IfOk result (λ bad. bad ≡ list_any (shapes.leaves (block_seen own)) (map (λ host. map host_part_seen host.now) hosts.now)) }
+fn is_bad_host(alloc: Global, host: &[HostPart<'_>]) -> Result<bool, NoMemory>
+    ensures { IfOk result (λ bad. bad ≡ shapes.is_bad_host (map host_part_seen host.now)) }
 {
-    for host in hosts {
-        if leaves(alloc, own, host)? {
+    if span_count(alloc, host)? != 1 {
+        return Ok(true);
+    }
+    any_reversed(alloc, host)
+}
+
+fn any_bad_host(alloc: Global, parts: &[NetPart<'_>]) -> Result<bool, NoMemory>
+    ensures { IfOk result (λ bad. bad ≡ list_any shapes.is_bad_host (flat_map shapes.hosts_in (map net_part_seen parts.now))) }
+{
+    for part in parts {
+        if let NetPart::Host { parts, .. } = part
+            && is_bad_host(alloc, parts)?
+        {
+            return Ok(true);
+        }
+    }
+    Ok(false)
+}
+
+fn any_leaves(alloc: Global, own: Block, parts: &[NetPart<'_>]) -> Result<bool, NoMemory>
+    ensures { IfOk result (λ bad. bad ≡ list_any (shapes.leaves (block_seen own)) (flat_map shapes.hosts_in (map net_part_seen parts.now))) }
+{
+    for part in parts {
+        if let NetPart::Host { parts, .. } = part
+            && any_outside(alloc, own.aligned(), parts)?
+        {
             return Ok(true);
         }
     }
@@ -205,14 +187,54 @@ fn any_leaves(alloc: Global, own: Block, hosts: &[&[HostPart<'_>]]) -> Result<bo
 fn any_host_leaves(
     alloc: Global,
     own: Option<Block>,
-    hosts: &[&[HostPart<'_>]],
+    parts: &[NetPart<'_>],
 ) -> Result<bool, NoMemory>
-    ensures { IfOk result (λ bad. bad ≡ holds_of (λ p. list_any (shapes.leaves p) (map (λ host. map host_part_seen host.now) hosts.now)) (option_map block_seen own)) }
+    ensures { IfOk result (λ bad. bad ≡ holds_of (λ p. list_any (shapes.leaves p) (flat_map shapes.hosts_in (map net_part_seen parts.now))) (option_map block_seen own)) }
 {
     match own {
-        Some(own) => any_leaves(alloc, own, hosts),
+        Some(own) => any_leaves(alloc, own, parts),
         None => Ok(false),
     }
+}
+
+fn own_unaligned(parts: &[NetPart<'_>]) -> bool
+    ensures { result ≡ list_any shapes.is_unaligned (flat_map plain.ips_in_net_part (map net_part_seen parts.now)) }
+{
+    for part in parts {
+        if let NetPart::Ip(word) = part
+            && is_unaligned(word)
+        {
+            return true;
+        }
+    }
+    false
+}
+
+fn nat_unaligned(parts: &[NatPart<'_>]) -> bool
+    ensures { result ≡ list_any shapes.is_unaligned (flat_map plain.ips_in_nat_part (map nat_part_seen parts.now)) }
+{
+    for part in parts {
+        if let NatPart::Ip(word) = part
+            && is_unaligned(word)
+        {
+            return true;
+        }
+    }
+    false
+}
+
+#[tactic(auto, using(crate::proofs::Lists::any_of_both))]
+fn nats_unaligned(parts: &[NetPart<'_>]) -> bool
+    ensures { result ≡ list_any shapes.is_unaligned (flat_map plain.ips_in_nats (map net_part_seen parts.now)) }
+{
+    for part in parts {
+        if let NetPart::Nat { parts, .. } = part
+            && nat_unaligned(parts)
+        {
+            return true;
+        }
+    }
+    false
 }
 
 // Whether a word is a prefix of another length.
@@ -225,22 +247,38 @@ fn has_other_length(own: Block, word: &Word<'_>) -> bool
     }
 }
 
-fn some_other_length(own: Block, words: &[Word<'_>]) -> bool
-    ensures { result ≡ list_any (other_length (block_seen own)) (map word_seen words.now) }
+fn nat_other_length(own: Block, parts: &[NatPart<'_>]) -> bool
+    ensures { result ≡ list_any (other_length (block_seen own)) (flat_map plain.ips_in_nat_part (map nat_part_seen parts.now)) }
 {
-    for word in words {
-        if has_other_length(own, word) {
+    for part in parts {
+        if let NatPart::Ip(word) = part
+            && has_other_length(own, word)
+        {
             return true;
         }
     }
     false
 }
 
-fn any_other_length(own: Option<Block>, words: &[Word<'_>]) -> bool
-    ensures { result ≡ holds_of (λ p. list_any (other_length p) (map word_seen words.now)) (option_map block_seen own) }
+#[tactic(auto, using(crate::proofs::Lists::any_of_both))]
+fn some_other_length(own: Block, parts: &[NetPart<'_>]) -> bool
+    ensures { result ≡ list_any (other_length (block_seen own)) (flat_map plain.ips_in_nats (map net_part_seen parts.now)) }
+{
+    for part in parts {
+        if let NetPart::Nat { parts, .. } = part
+            && nat_other_length(own, parts)
+        {
+            return true;
+        }
+    }
+    false
+}
+
+fn any_other_length(own: Option<Block>, parts: &[NetPart<'_>]) -> bool
+    ensures { result ≡ holds_of (λ p. list_any (other_length p) (flat_map plain.ips_in_nats (map net_part_seen parts.now))) (option_map block_seen own) }
 {
     match own {
-        Some(own) => some_other_length(own, words),
+        Some(own) => some_other_length(own, parts),
         None => false,
     }
 }

@@ -1,20 +1,19 @@
-ghost use Rattle.std.specs.Prelude.{◌≡◌, ◌&&◌, not, false, [], map, flat_map, option_map, option_and_then, slice_get, unwrap_or, IfOk, OnOk};
-ghost use Rattle.policy_model.specs.Lists.{is_nothing};
-ghost use Rattle.spoc_ast.specs.Seen.{decl_seen, net_part_seen, port_seen, word_seen, rout_part_seen};
+ghost use Rattle.std.specs.Prelude.{◌≡◌, false, map, flat_map, option_map, option_and_then, slice_get, unwrap_or, IfOk, OnOk};
+ghost use Rattle.spoc_ast.specs.Seen.{decl_seen, port_seen, word_seen};
 ghost use Rattle.policy_decls.specs.Names.{declared_names};
 ghost use Rattle.policy_decls.specs.Lookup as plain;
-ghost use Rattle.policy_decls.specs.Shapes.{is_bare_port, is_unmanaged_port};
+ghost use Rattle.policy_decls.specs.Shapes.{is_bare_port, is_taken, is_unmanaged_port};
 ghost use Rattle.policy_shapes.specs.Seen.{block_seen, iface_seen};
-ghost use Rattle.policy_shapes.specs.Keys.{has_key, with_keys};
+ghost use Rattle.policy_shapes.specs.Keys.{has_key, with_keys, address_keys};
 ghost use Rattle.policy_shapes.specs.Policy.{own_prefixes, managed_flags, bare_keys, joined};
 
 use crate::block::Block;
-use crate::iface::{Iface, ifaces, is_managed};
+use crate::clash::add_addresses;
+use crate::iface::{Iface, all_ifaces, is_managed};
 use crate::keys::Keys;
-use crate::network::own_prefixes;
-use crate::word::only_block;
+use crate::network::own_prefix;
 use policy_names::{NameKind, NameTable};
-use spoc_ast::{Decl, NetPart, PortName, RoutPart, Word};
+use spoc_ast::{Decl, PortName, Word};
 use spoc_base::NoMemory;
 use std::alloc::Global;
 use std::marker::Model;
@@ -30,6 +29,8 @@ pub(crate) struct Policy<'t, 'a> {
     managed: Vec<bool>,
     // The interfaces of unmanaged routers that have no address.
     bare: Keys<'a>,
+    // The addresses of interfaces, by their networks.
+    taken: Keys<'a>,
 }
 
 impl<'t, 'a> Model for Policy<'t, 'a> {
@@ -48,7 +49,7 @@ impl<'t, 'a> Model for Policy<'t, 'a> {
 
     ghost view = { λ p. p.decls.now };
 
-    ghost invariant = { λ p. IsPolicy (map decl_seen p.decls.now) p.table.now (map (option_map block_seen) p.own.items) p.managed.items p.bare };
+    ghost invariant = { λ p. IsPolicy (map decl_seen p.decls.now) p.table.now (map (option_map block_seen) p.own.items) p.managed.items p.bare p.taken };
 }
 
 impl<'t, 'a> Policy<'t, 'a> {
@@ -61,12 +62,14 @@ impl<'t, 'a> Policy<'t, 'a> {
         requires { table.now ≡ declared_names (map decl_seen decls.now) }
         ensures { IfOk result (λ policy. policy ≡ decls.now) }
     {
+        let ifaces = all_ifaces(alloc, decls)?;
         Ok(Policy {
             decls,
             table,
             own: blocks(alloc, decls)?,
             managed: flags(alloc, decls)?,
-            bare: bare(alloc, decls)?,
+            bare: bare(alloc, &ifaces)?,
+            taken: taken(alloc, &ifaces)?,
         })
     }
 
@@ -100,6 +103,13 @@ impl<'t, 'a> Policy<'t, 'a> {
     {
         self.bare.holds(port.router.text, port.net.text)
     }
+
+    /// Whether an interface of the network of a name has the address.
+    pub(crate) fn is_taken(&self, net: &Word<'_>, address: &Word<'_>) -> bool
+        ensures { result ≡ is_taken (map decl_seen self.now) (word_seen net.now) (word_seen address.now) }
+    {
+        self.taken.holds(net.text, address.text)
+    }
 }
 
 fn block_at(own: &[Option<Block>], number: Option<u32>) -> Option<Block>
@@ -120,13 +130,6 @@ fn flag_at(managed: &[bool], number: Option<u32>) -> bool
     }
 }
 
-fn own_block(alloc: Global, parts: &[NetPart<'_>]) -> Result<Option<Block>, NoMemory>
-    ensures { IfOk result (λ own. option_map block_seen own ≡ plain.own_prefix (map net_part_seen parts.now)) }
-{
-    let prefixes = own_prefixes(alloc, parts)?;
-    Ok(only_block(&prefixes))
-}
-
 // The networks' own prefixes, in the order of their declarations.
 fn blocks(alloc: Global, decls: &[Decl<'_>]) -> Result<Vec<Option<Block>>, NoMemory>
     ensures { IfOk result (λ found. map (option_map block_seen) found.items ≡ own_prefixes (map decl_seen decls.now)) }
@@ -134,7 +137,7 @@ fn blocks(alloc: Global, decls: &[Decl<'_>]) -> Result<Vec<Option<Block>>, NoMem
     let mut found = Vec::new(alloc);
     for decl in decls {
         if let Decl::Network { parts, .. } = decl {
-            found.push(own_block(alloc, parts)?)?;
+            found.push(own_prefix(parts))?;
         }
     }
     Ok(found)
@@ -153,72 +156,34 @@ fn flags(alloc: Global, decls: &[Decl<'_>]) -> Result<Vec<bool>, NoMemory>
     Ok(found)
 }
 
-// The interfaces of unmanaged routers that have no address.
-fn bare<'a>(alloc: Global, decls: &[Decl<'a>]) -> Result<Keys<'a>, NoMemory>
-    ensures { IfOk result (λ found. has_key found ≡ has_key (flat_map bare_keys (plain.declared_ifaces (map decl_seen decls.now)))) }
+// Those of the interfaces whose router isn't managed and that have no address.
+fn bare<'a>(alloc: Global, ifaces: &[Iface<'a>]) -> Result<Keys<'a>, NoMemory>
+    ensures { IfOk result (λ found. has_key found ≡ has_key (flat_map bare_keys (map iface_seen ifaces.now))) }
 {
     let mut found = Keys::new(alloc);
-    for decl in decls {
-        add_bare(alloc, decl, &mut found)?;
+    for iface in ifaces {
+        add_if_bare(iface, &mut found)?;
     }
     Ok(found)
 }
 
-#[tactic(auto, using(crate::proofs::Known::with_none))]
-fn add_bare<'a>(alloc: Global, decl: &Decl<'a>, found: &mut Keys<'a>) -> Result<(), NoMemory>
-    ensures { OnOk result (has_key found.new ≡ with_keys (has_key found.old) (flat_map bare_keys (plain.ifaces_in (decl_seen decl.now)))) }
-{
-    match decl {
-        Decl::Router { name, parts, .. } => add_bare_ifaces(alloc, *name, parts, found),
-        Decl::Network { .. }
-        | Decl::Group { .. }
-        | Decl::Area { .. }
-        | Decl::Aggregate { .. }
-        | Decl::Protocol { .. }
-        | Decl::ProtocolGroup { .. }
-        | Decl::Restriction { .. }
-        | Decl::Service { .. } => Ok(()),
-    }
-}
-
-fn add_bare_ifaces<'a>(
-    alloc: Global,
-    router: Word<'a>,
-    parts: &[RoutPart<'a>],
-    found: &mut Keys<'a>,
-) -> Result<(), NoMemory>
-    ensures { OnOk result (has_key found.new ≡ with_keys (has_key found.old) (flat_map bare_keys (flat_map (plain.ifaces_in_part (word_seen router.entry) (plain.is_managed_router (map rout_part_seen parts.now))) (map rout_part_seen parts.now)))) }
-{
-    let ifaces = ifaces(alloc, router, parts)?;
-    add_all_bare(alloc, &ifaces, found)
-}
-
-fn add_all_bare<'a>(
-    alloc: Global,
-    ifaces: &[Iface<'a>],
-    found: &mut Keys<'a>,
-) -> Result<(), NoMemory>
-    ensures { OnOk result (has_key found.new ≡ with_keys (has_key found.old) (flat_map bare_keys (map iface_seen ifaces.now))) }
-{
-    for iface in ifaces {
-        add_if_bare(alloc, iface, found)?;
-    }
-    Ok(())
-}
-
-fn is_bare(alloc: Global, iface: &Iface<'_>) -> Result<bool, NoMemory>
-    ensures { IfOk result (λ bare. bare ≡ (not (iface_seen iface.now).managed && is_nothing (plain.iface_addresses (iface_seen iface.now)))) }
-{
-    let addresses = iface.addresses(alloc)?;
-    Ok(!iface.managed && addresses.is_empty())
-}
-
-fn add_if_bare<'a>(alloc: Global, iface: &Iface<'a>, found: &mut Keys<'a>) -> Result<(), NoMemory>
+fn add_if_bare<'a>(iface: &Iface<'a>, found: &mut Keys<'a>) -> Result<(), NoMemory>
     ensures { OnOk result (has_key found.new ≡ with_keys (has_key found.old) (bare_keys (iface_seen iface.now))) }
 {
-    if !is_bare(alloc, iface)? {
+    if !iface.is_bare() {
         return Ok(());
     }
     found.add(iface.router.text, iface.net.text)?;
     Ok(())
+}
+
+// The addresses of the interfaces, by their networks.
+fn taken<'a>(alloc: Global, ifaces: &[Iface<'a>]) -> Result<Keys<'a>, NoMemory>
+    ensures { IfOk result (λ found. has_key found ≡ has_key (flat_map address_keys (map iface_seen ifaces.now))) }
+{
+    let mut found = Keys::new(alloc);
+    for iface in ifaces {
+        add_addresses(iface, &mut found)?;
+    }
+    Ok(found)
 }

@@ -1,26 +1,24 @@
-ghost use Rattle.std.specs.Prelude.{◌≡◌, ◌++◌, None, length, filter, map, flat_map, option_map, IfOk};
+ghost use Rattle.std.specs.Prelude.{◌≡◌, None, length, filter, map, flat_map, IfOk};
 ghost use Rattle.std.specs.List.{list_any};
 ghost use Rattle.spoc_ast.specs.Seen.{word_seen, rout_part_seen, decl_seen};
-ghost use Rattle.policy_decls.specs.Numbers.{holds_of};
 ghost use Rattle.policy_decls.specs.Lookup as plain;
 ghost use Rattle.policy_decls.specs.Shapes as shapes;
-ghost use Rattle.policy_shapes.specs.Seen.{block_seen, iface_seen};
+ghost use Rattle.policy_shapes.specs.Seen.{iface_seen};
 ghost use Rattle.policy_shapes.specs.Keys.{has_key, with_keys, address_keys};
-ghost use Rattle.policy_shapes.specs.Rows.{iface_rows, router_rows, router_ifaces, is_outside_of};
+ghost use Rattle.policy_shapes.specs.Rows.{iface_rows, router_rows, router_ifaces};
 
-use crate::block::Block;
 use crate::clash::{is_bad_binding, share_address, share_hardware};
-use crate::iface::{Iface, ifaces, is_managed};
+use crate::iface::{Iface, add_ifaces, is_managed};
 use crate::keys::Keys;
 use crate::policy::Policy;
-use policy_numbers::address;
-use spoc_ast::{RoutPart, Word};
+use crate::shared::{is_bad_shared, is_outside_net};
+use spoc_ast::{IfPart, RoutPart, Word};
 use spoc_base::NoMemory;
 use std::alloc::Global;
 
-/// The least number of what must not stand in a router of these parts and does, from 6 to 11, by
-/// the addresses of the interfaces that are declared before it. If there is none, the addresses of
-/// its interfaces are added to those.
+/// The least number of what must not stand in a router of these parts and does, from 6 to 11 or
+/// 15, by the addresses of the interfaces that are declared before it. If there is none, the
+/// addresses of its interfaces are added to those.
 pub(crate) fn router_shape<'a>(
     alloc: Global,
     policy: &Policy<'_, '_>,
@@ -31,14 +29,15 @@ pub(crate) fn router_shape<'a>(
     ensures shape { IfOk result (λ shape. shape ≡ router_rows (map decl_seen policy.now) (has_key earlier.old) (word_seen router.entry) (map rout_part_seen parts.now)) }
     ensures names { IfOk result (λ shape. shape ≡ None → has_key earlier.new ≡ with_keys (has_key earlier.old) (flat_map address_keys (router_ifaces (word_seen router.entry) (map rout_part_seen parts.now)))) }
 {
-    if is_bad_device(alloc, parts)? {
+    if is_bad_device(parts) {
         return Ok(Some(6));
     }
-    let ifaces = ifaces(alloc, router, parts)?;
+    let mut ifaces = Vec::new(alloc);
+    add_ifaces(router, parts, &mut ifaces)?;
     ifaces_shape(alloc, policy, earlier, &ifaces)
 }
 
-// The least number from 7 to 11, for the interfaces of a router.
+// The least number from 7 on, for the interfaces of a router.
 fn ifaces_shape<'a>(
     alloc: Global,
     policy: &Policy<'_, '_>,
@@ -48,13 +47,13 @@ fn ifaces_shape<'a>(
     ensures shape { IfOk result (λ shape. shape ≡ iface_rows (map decl_seen policy.now) (has_key earlier.old) (map iface_seen ifaces.now)) }
     ensures names { IfOk result (λ shape. shape ≡ None → has_key earlier.new ≡ with_keys (has_key earlier.old) (flat_map address_keys (map iface_seen ifaces.now))) }
 {
-    if any_bad_iface(alloc, ifaces)? {
+    if any_bad_iface(ifaces) {
         return Ok(Some(7));
     }
-    if any_outside(alloc, policy, ifaces)? {
+    if any_outside(policy, ifaces) {
         return Ok(Some(8));
     }
-    if share_address(alloc, earlier, ifaces)? {
+    if share_address(earlier, ifaces)? {
         return Ok(Some(9));
     }
     if share_hardware(alloc, ifaces)? {
@@ -62,6 +61,9 @@ fn ifaces_shape<'a>(
     }
     if any_bad_binding(alloc, ifaces)? {
         return Ok(Some(11));
+    }
+    if any_bad_shared(policy, ifaces) {
+        return Ok(Some(15));
     }
     Ok(None)
 }
@@ -79,28 +81,28 @@ fn managed_count(parts: &[RoutPart<'_>]) -> usize
     count
 }
 
-fn models<'a>(alloc: Global, parts: &[RoutPart<'a>]) -> Result<Vec<Word<'a>>, NoMemory>
-    ensures { IfOk result (λ found. map word_seen found.items ≡ flat_map plain.models_in (map rout_part_seen parts.now)) }
+fn model_count(parts: &[RoutPart<'_>]) -> usize
+    ensures { result ≡ length (flat_map plain.models_in (map rout_part_seen parts.now)) }
 {
-    let mut found = Vec::new(alloc);
+    let mut count = 0;
     for part in parts {
-        if let RoutPart::Model(word) = part {
-            found.push(*word)?;
+        if let RoutPart::Model(_) = part {
+            count += 1;
         }
     }
-    Ok(found)
+    count
 }
 
-fn routings<'a>(alloc: Global, parts: &[RoutPart<'a>]) -> Result<Vec<Word<'a>>, NoMemory>
-    ensures { IfOk result (λ found. map word_seen found.items ≡ flat_map plain.routings_in (map rout_part_seen parts.now)) }
+fn routing_count(parts: &[RoutPart<'_>]) -> usize
+    ensures { result ≡ length (flat_map plain.routings_in (map rout_part_seen parts.now)) }
 {
-    let mut found = Vec::new(alloc);
+    let mut count = 0;
     for part in parts {
-        if let RoutPart::Routing(word) = part {
-            found.push(*word)?;
+        if let RoutPart::Routing(_) = part {
+            count += 1;
         }
     }
-    Ok(found)
+    count
 }
 
 fn is_model(word: &Word<'_>) -> bool
@@ -109,11 +111,13 @@ fn is_model(word: &Word<'_>) -> bool
     word.text == b"IOS".as_slice() || word.text == b"ASA".as_slice()
 }
 
-fn any_model(words: &[Word<'_>]) -> bool
-    ensures { result ≡ list_any shapes.is_model (map word_seen words.now) }
+fn any_model(parts: &[RoutPart<'_>]) -> bool
+    ensures { result ≡ list_any shapes.is_model (flat_map plain.models_in (map rout_part_seen parts.now)) }
 {
-    for word in words {
-        if is_model(word) {
+    for part in parts {
+        if let RoutPart::Model(word) = part
+            && is_model(word)
+        {
             return true;
         }
     }
@@ -122,80 +126,49 @@ fn any_model(words: &[Word<'_>]) -> bool
 
 // Whether `managed`, `model` or `routing` stands twice, or the router is managed and hasn't the
 // model IOS or ASA.
-fn is_bad_device(alloc: Global, parts: &[RoutPart<'_>]) -> Result<bool, NoMemory>
-    ensures { IfOk result (λ bad. bad ≡ shapes.is_bad_device (map rout_part_seen parts.now)) }
+fn is_bad_device(parts: &[RoutPart<'_>]) -> bool
+    ensures { result ≡ shapes.is_bad_device (map rout_part_seen parts.now) }
 {
-    let models = models(alloc, parts)?;
-    let routings = routings(alloc, parts)?;
-    if managed_count(parts) > 1 || models.len() > 1 || routings.len() > 1 {
-        return Ok(true);
+    if managed_count(parts) > 1 || model_count(parts) > 1 || routing_count(parts) > 1 {
+        return true;
     }
-    Ok(is_managed(parts) && !any_model(&models))
+    is_managed(parts) && !any_model(parts)
 }
 
-fn any_bad_iface(alloc: Global, ifaces: &[Iface<'_>]) -> Result<bool, NoMemory>
-    ensures { IfOk result (λ bad. bad ≡ list_any shapes.is_bad_iface (map iface_seen ifaces.now)) }
+fn any_bad_iface(ifaces: &[Iface<'_>]) -> bool
+    ensures { result ≡ list_any shapes.is_bad_iface (map iface_seen ifaces.now) }
 {
     for iface in ifaces {
-        if iface.is_bad(alloc)? {
-            return Ok(true);
-        }
-    }
-    Ok(false)
-}
-
-// Whether a word is an address that isn't in the prefix.
-fn is_outside_of(block: Block, word: &Word<'_>) -> bool
-    ensures { result ≡ is_outside_of (block_seen block) (word_seen word.now) }
-{
-    match address(word.text) {
-        Some(address) => !block.holds(address),
-        None => false,
-    }
-}
-
-fn any_outside_of(block: Block, words: &[Word<'_>]) -> bool
-    ensures { result ≡ list_any (is_outside_of (block_seen block)) (map word_seen words.now) }
-{
-    for word in words {
-        if is_outside_of(block, word) {
+        if iface.is_bad() {
             return true;
         }
     }
     false
 }
 
-// Whether an address isn't among the addresses of the network's own prefix.
-fn leaves_network(own: Option<Block>, words: &[Word<'_>]) -> bool
-    ensures { result ≡ holds_of (λ p. list_any (is_outside_of (plain.aligned p)) (map word_seen words.now)) (option_map block_seen own) }
-{
-    match own {
-        Some(own) => any_outside_of(own.aligned(), words),
-        None => false,
-    }
-}
-
 // Whether an interface's address is outside its network.
-fn is_outside(alloc: Global, policy: &Policy<'_, '_>, iface: &Iface<'_>) -> Result<bool, NoMemory>
-    ensures { IfOk result (λ bad. bad ≡ shapes.is_outside (map decl_seen policy.now) (iface_seen iface.now)) }
+fn is_outside(policy: &Policy<'_, '_>, iface: &Iface<'_>) -> bool
+    ensures { result ≡ shapes.is_outside (map decl_seen policy.now) (iface_seen iface.now) }
 {
-    let addresses = iface.addresses(alloc)?;
-    Ok(leaves_network(policy.own_prefix(iface.net.text), &addresses))
-}
-
-fn any_outside(
-    alloc: Global,
-    policy: &Policy<'_, '_>,
-    ifaces: &[Iface<'_>],
-) -> Result<bool, NoMemory>
-    ensures { IfOk result (λ bad. bad ≡ list_any (shapes.is_outside (map decl_seen policy.now)) (map iface_seen ifaces.now)) }
-{
-    for iface in ifaces {
-        if is_outside(alloc, policy, iface)? {
-            return Ok(true);
+    for part in iface.parts {
+        if let IfPart::Ip(word) = part
+            && is_outside_net(policy, &iface.net, word)
+        {
+            return true;
         }
     }
-    Ok(false)
+    false
+}
+
+fn any_outside(policy: &Policy<'_, '_>, ifaces: &[Iface<'_>]) -> bool
+    ensures { result ≡ list_any (shapes.is_outside (map decl_seen policy.now)) (map iface_seen ifaces.now) }
+{
+    for iface in ifaces {
+        if is_outside(policy, iface) {
+            return true;
+        }
+    }
+    false
 }
 
 fn any_bad_binding(alloc: Global, ifaces: &[Iface<'_>]) -> Result<bool, NoMemory>
@@ -207,4 +180,15 @@ fn any_bad_binding(alloc: Global, ifaces: &[Iface<'_>]) -> Result<bool, NoMemory
         }
     }
     Ok(false)
+}
+
+fn any_bad_shared(policy: &Policy<'_, '_>, ifaces: &[Iface<'_>]) -> bool
+    ensures { result ≡ list_any (shapes.is_bad_shared (map decl_seen policy.now)) (map iface_seen ifaces.now) }
+{
+    for iface in ifaces {
+        if is_bad_shared(policy, iface) {
+            return true;
+        }
+    }
+    false
 }

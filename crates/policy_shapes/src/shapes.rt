@@ -1,5 +1,5 @@
-ghost use Rattle.std.specs.Prelude.{◌≡◌, ◌++◌, Some, None, [], map, IfOk, OnOk};
-ghost use Rattle.spoc_ast.specs.Seen.{decl_seen, file_seen, simple_seen, prt_seen};
+ghost use Rattle.std.specs.Prelude.{◌≡◌, Some, None, [], map, IfOk};
+ghost use Rattle.spoc_ast.specs.Seen.{decl_seen, simple_seen, prt_seen};
 ghost use Rattle.policy_decls.specs.Names.{declared_names, names_in, shown_at};
 ghost use Rattle.policy_decls.specs.Faults.{first_shape};
 ghost use Rattle.policy_names.specs.Seen.{decls_of};
@@ -23,7 +23,8 @@ use std::alloc::Global;
 
 /// The first declaration in which something stands that must not, with the least number of that:
 ///
-/// 1. A network or a translation of it hasn't exactly one prefix.
+/// 1. A network hasn't exactly one prefix, or a translation of it hasn't exactly one part: a prefix,
+///    or that the network is hidden.
 /// 2. A host hasn't exactly one address or range, or the first address of its range is above the
 ///    last.
 /// 3. An address of a host is outside its network.
@@ -44,7 +45,10 @@ use std::alloc::Global;
 /// 14. An area has no anchor and no border, two anchors, two border parts or a border of an
 ///     unmanaged router; an aggregate hasn't exactly one link or has two prefixes; a set names an
 ///     interface of an unmanaged router that has no address; or a rule names the user neither in
-///     its source nor in its destination.
+///     its source nor in its destination, be it one that permits or one that denies.
+/// 15. An interface shares two addresses; it shares one and its router isn't managed; it hasn't
+///     exactly one address to share; or that is outside the network or the address of an interface
+///     of that network, declared before or behind it.
 ///
 /// The table is that of the names that the files declare. An error comes from want of memory
 /// alone.
@@ -67,18 +71,9 @@ fn all_decls<'a>(alloc: Global, files: &[File<'a>]) -> Result<Vec<Decl<'a>>, NoM
 {
     let mut found = Vec::new(alloc);
     for file in files {
-        add_decls(file, &mut found)?;
+        found.extend_from_slice(file.decls)?;
     }
     Ok(found)
-}
-
-fn add_decls<'a>(file: &File<'a>, found: &mut Vec<Decl<'a>>) -> Result<(), NoMemory>
-    ensures { OnOk result (map decl_seen found.new.items ≡ map decl_seen found.old.items ++ file_seen file.now) }
-{
-    for decl in file.decls {
-        found.push(*decl)?;
-    }
-    Ok(())
 }
 
 fn first_among<'a>(
@@ -113,8 +108,8 @@ fn decl_shape<'a>(
         Decl::Network { parts, .. } => network_shape(alloc, parts),
         Decl::Router { name, parts, .. } => router_shape(alloc, policy, earlier, *name, parts),
         Decl::Group { objects, .. } => Ok(group_shape(policy, objects)),
-        Decl::Area { parts, .. } => area_shape(alloc, policy, parts),
-        Decl::Aggregate { parts, .. } => aggregate_shape(alloc, parts),
+        Decl::Area { parts, .. } => Ok(area_shape(policy, parts)),
+        Decl::Aggregate { parts, .. } => Ok(aggregate_shape(parts)),
         Decl::Protocol { simple, .. } => protocol_shape(alloc, simple),
         Decl::ProtocolGroup { prts, .. } => protocol_group_shape(alloc, prts),
         Decl::Restriction { ports, .. } => Ok(restriction_shape(policy, ports)),

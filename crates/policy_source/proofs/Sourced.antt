@@ -4,17 +4,20 @@ use Rattle.std.specs.Prelude.{flat_map, slice_get, take, drop, Result, Ok, Err, 
 use Rattle.std.specs.Option.{ForSome}
 use Rattle.std.specs.List.{All, AllByRecursion, list_all}
 use Rattle.std.proofs.lemmas.Bool.{and_parts, and_from}
+use Rattle.std.proofs.lemmas.List.Folds.{list_all-append}
 use Rattle.std.proofs.lemmas.List.Elements.{All-from_recursion, recursion_from_All}
 use Rattle.spoc_base.specs.declared.place.Source.{Source}
 use Rattle.spoc_lexer.specs.Tokens.{Tok, tokens_of}
-use Rattle.spoc_ast.specs.Written.{Lexeme, NetPartText, NetIp, NetHost, NetNat, NetIdle, IfPartText, IfIp, IfHardware, IfBindNat, IfIdle, RoutPartText, RoutManaged, RoutModel, RoutRouting, RoutIface, RoutIdle, DeclText, NetworkDecl, RouterDecl, GroupDecl, AreaDecl, AggregateDecl, ProtocolDecl, ProtocolGroupDecl, RestrictionDecl, ServiceDecl}
+use Rattle.spoc_ast.specs.Written.{Lexeme, NetPartText, NetIp, NetHost, NetNat, NetIdle, IfPartText, IfIp, IfHardware, IfBindNat, IfVirtual, IfIdle, RoutPartText, RoutManaged, RoutModel, RoutRouting, RoutIface, RoutIdle, DeclText, NetworkDecl, RouterDecl, GroupDecl, AreaDecl, AggregateDecl, ProtocolDecl, ProtocolGroupDecl, RestrictionDecl, ServiceDecl}
 use Rattle.spoc_parser.specs.Trees.{DeclIn}
 use Rattle.spoc_parser.specs.Files.{run_of, most_levels}
 use Rattle.policy_decls.specs.Formed.{is_formed, are_formed}
+use Rattle.policy_decls.specs.Spelled.{is_spelled_decl, are_spelled}
 use Rattle.topology.specs.Texts.{LiesIn, text_at}
 use Rattle.syntax_laws.specs.Said.{decls_said}
 use Rattle.syntax_laws.specs.WordsIn.{IsSlice, perhaps_in, word_in, net_words, iface_words, router_words, words_in}
 use Rattle.syntax_laws.proofs.Phrases.{halves}
+use Rattle.syntax_laws.proofs.Spelled.{run_spelled}
 use Rattle.syntax_laws.proofs.Whole.{run_formed, run_in_text}
 use Rattle.spoc_base.specs.declared.fault.Fault.{Fault}
 use Rattle.spoc_base.specs.declared.fault.Refusal.{Refusal}
@@ -58,6 +61,26 @@ formed_from k (text ∷ texts) = both_formed (decls_of_text k text) (declared_fr
 
 pub formed : (texts : List (List ℕ)) → are_formed (declared texts) ≡ true
 formed texts = formed_from 0 texts
+
+-- ---- spelled
+
+spelled_by_run : (k : ℕ) (text : List ℕ) (toks : List Tok) → tokens_of text ≡ Ok toks → (o : Option (List (DeclIn most_levels) × List Tok)) → run_of most_levels toks ≡ o →
+    are_spelled (decls_said k most_levels (items_read o)) ≡ true
+spelled_by_run k text toks h None run = refl
+spelled_by_run k text toks h (Some r) run = run_spelled k most_levels text toks r.1 r.0 h run
+
+spelled_by_tokens : (k : ℕ) (text : List ℕ) (r : Result (List Tok) ℕ) → tokens_of text ≡ r → are_spelled (decls_said k most_levels (items_read (run_of most_levels (toks_in r)))) ≡ true
+spelled_by_tokens k text (Ok toks) h = spelled_by_run k text toks h (run_of most_levels toks) refl
+spelled_by_tokens k text (Err offset) h = refl
+
+spelled_from : (k : ℕ) (texts : List (List ℕ)) → are_spelled (declared_from k texts) ≡ true
+spelled_from k [] = refl
+spelled_from k (text ∷ texts) =
+    list_all-append is_spelled_decl (decls_of_text k text) (declared_from (k + 1) texts)
+    ∙ and_from (are_spelled (decls_of_text k text)) (are_spelled (declared_from (k + 1) texts)) (spelled_by_tokens k text (tokens_of text) refl) (spelled_from (k + 1) texts)
+
+pub spelled : (texts : List (List ℕ)) → are_spelled (declared texts) ≡ true
+spelled texts = spelled_from 0 texts
 
 -- ---- written
 
@@ -104,6 +127,7 @@ module _ (sources : List Source) where
     if_part (IfIp address) h = tt
     if_part (IfHardware hardware) h = word hardware h.0
     if_part (IfBindNat tags) h = tt
+    if_part (IfVirtual parts) h = tt
     if_part (IfIdle idle) h = tt
 
     rout_part : (part : RoutPartText) → AllByRecursion S (router_words part) → IsRoutPartOf sources part

@@ -2,26 +2,30 @@
 use Rattle.std.proofs.Common.{◌≡◌, ℕ, zero, suc, ◌<◌, Bool, true, false, List, [], ◌∷◌, length, map, refl, sym, ap, subst, ◌∙◌, arith, slice_index_or}
 use Rattle.std.specs.Prelude.{◌==◌, ◌&&◌, not, filter}
 use Rattle.std.specs.List.{All, AllPairs, Contains, list_any}
-use Rattle.std.proofs.lemmas.Bool.{and_parts, not-true}
+use Rattle.std.proofs.lemmas.Bool.{and_parts, and_from, not-true, eq-eqb, or_left}
 use Rattle.std.proofs.lemmas.List.{get_or_default}
 use Rattle.policy_model.specs.Lists.{numbers_below, pairs_of}
-use Rattle.policy_model.specs.Policy.{all_nets}
+use Rattle.policy_model.specs.Policy.{Policy, all_nets}
 use Rattle.policy_model.specs.Zones.{Site, IsSite, zone_of, zone_count}
 use Rattle.policy_model.specs.Tags.{Views}
 use Rattle.policy_model.specs.Permits.{Permit}
-use Rattle.policy_model.specs.Blocks.{permit_at, is_concerned, all_pairs, zone_pairs}
+use Rattle.policy_model.specs.Blocks.{permit_at, no_permit, is_concerned, zone_pairs}
 use Rattle.policy_model.proofs.AllWalks.{IsIn}
 use Rattle.list_laws.proofs.Members.{from_filter}
 use Rattle.policy_laws.proofs.PermitLines.{from_pairs}
 use Rattle.zone_graph.specs.Grouped.{HasGroups}
 use Rattle.rule_distribute.specs.Concerned.{is_concerned_pair, concerned_pairs}
+use Rattle.permit_lines.specs.Given.{AreKnown}
+use Rattle.rule_distribute.specs.Hidden.{HaveTables}
+use Rattle.rule_distribute.specs.Nested.{AreNets}
 use Rattle.rule_distribute.specs.Pairs.{IsBefore}
 use Rattle.rule_distribute.specs.Paths.{AreNamed}
 use Rattle.rule_distribute.specs.Placed.{Pairs, row_at, HaveRows, AreLess, ArePairsOf}
 use Rattle.rule_distribute.specs.Rows.{pair_at, belongs, row_below}
 use Rattle.rule_distribute.proofs.Rising.{Rises, contains_in, in_contains}
 use Rattle.rule_distribute.proofs.Tuples.{some_rise}
-use Rattle.rule_distribute.proofs.Concerns.{below_count, concerned_listed}
+use Rattle.rule_distribute.proofs.Concerns.{below_count, all_in, concerned_listed, joined_concerned}
+use Rattle.rule_distribute.proofs.NetPairs.{ends_there, by}
 
 map_self : (xs : List ℕ) → map (λ k. k) xs ≡ xs
 map_self [] = refl
@@ -68,8 +72,8 @@ module _ (s : Site) (v : Views) (permits : List Permit) (j : Pairs) (are : ArePa
   pairs_in_order = subst (AllPairs IsBefore) (sym are.pairs) (places_rise IsBefore (filter wanted all) (some_rise wanted (length s.policy.nets) (length s.policy.nets)))
 
   -- the zones of the pairs are among those whose walks the lists depend on
-  pub are_named : (names : List (ℕ × ℕ)) → IsSite s → names ≡ zone_pairs s v permits → AreNamed s j.pairs names
-  are_named names site e =
+  pub are_named : (names : List (ℕ × ℕ)) → IsSite s → ((e : ℕ × ℕ) → Contains (zone_pairs s v permits) e → Contains names e) → AreNamed s j.pairs names
+  are_named names site there =
       record {
         src = src_there;
         dst = dst_there;
@@ -77,7 +81,7 @@ module _ (s : Site) (v : Views) (permits : List Permit) (j : Pairs) (are : ArePa
             let p = pair_at j.pairs w in
             let t = and_parts (not (zone_of s p.0 == zone_of s p.1)) (is_concerned s v permits (record { src = p.0; dst = p.1 })) (pair_in w h).1 in
             let listed = concerned_listed s v permits (record { src = p.0; dst = p.1 }) site (record { src = src_there w h; dst = dst_there w h }) t.1 (not-true (zone_of s p.0 == zone_of s p.1) t.0) in
-            subst (λ (ns : List (ℕ × ℕ)). Contains ns (zone_of s p.0, zone_of s p.1)) (sym e) (in_contains (zone_pairs s v permits) (zone_of s p.0, zone_of s p.1) listed);
+            there (zone_of s p.0, zone_of s p.1) (in_contains (zone_pairs s v permits) (zone_of s p.0, zone_of s p.1) listed);
       }
 
   -- the rows have the numbers of permits
@@ -98,13 +102,29 @@ module _ (s : Site) (v : Views) (permits : List Permit) (j : Pairs) (are : ArePa
           let low = below_count (length permits) x (from_filter test x (numbers_below (length permits)) i).0 in
           omega (arith, low, count)
 
--- some pair that matters goes between the zones
-abbrev is_zone_pair : Site → Views → List Permit → ℕ × ℕ → Bool
-is_zone_pair s v permits z = not (z.0 == z.1) && list_any (λ e. (zone_of s e.src == z.0) && (zone_of s e.dst == z.1) && is_concerned s v permits e) (all_pairs s.policy)
+-- the pairs' networks are there, however these are counted
+pub are_nets : (p : Policy) (j : Pairs) (count : ℕ) → HaveRows p j → count ≡ length p.nets → All (AreNets count) j.pairs
+are_nets p j count rows long = λ w d below.
+    let src = rows.src w below in
+    let dst = rows.dst w below in
+    let is : slice_index_or j.pairs w d ≡ pair_at j.pairs w = sym (get_or_default j.pairs w (0, 0) d below) in
+    let a = ap (λ (e : ℕ × ℕ). e.0) is in
+    let b = ap (λ (e : ℕ × ℕ). e.1) is in
+    record { src = omega (arith, src, a, long); dst = omega (arith, dst, b, long) }
 
--- the pairs of zones stand in order
-pub zones_in_order : (s : Site) (v : Views) (permits : List Permit) (names : List (ℕ × ℕ)) → names ≡ zone_pairs s v permits → AllPairs IsBefore names
-zones_in_order s v permits names e = subst (AllPairs IsBefore) (sym e) (places_rise IsBefore (zone_pairs s v permits) (some_rise (is_zone_pair s v permits) (zone_count s) (zone_count s)))
+-- the zones of each permit have a table
+pub have_tables : (s : Site) (v : Views) (permits : List Permit) (names : List (ℕ × ℕ)) → IsSite s → AreKnown s.policy permits → ((e : ℕ × ℕ) → Contains (zone_pairs s v permits) e → Contains names e) →
+    HaveTables s.zones names permits
+have_tables s v permits names site given there k below differ =
+    let q = permit_at permits k in
+    let i : IsIn q permits = contains_in permits q (k, below, get_or_default permits k q no_permit below) in
+    let e : ℕ × ℕ = (q.src.net, q.dst.net) in
+    let ends = ends_there s permits given q i in
+    let same = and_from (q.src.net == q.src.net) (q.dst.net == q.dst.net) (eq-eqb q.src.net q.src.net refl) (eq-eqb q.dst.net q.dst.net refl) in
+    let joined = by s permits given q (record { src = e.0; dst = e.1 }) i (or_left _ _ same) in
+    let concerned = and_parts (not (zone_of s e.0 == zone_of s e.1)) (is_concerned s v permits (record { src = e.0; dst = e.1 })) (joined_concerned s v permits e (all_in s e ends.src ends.dst) joined differ) in
+    there (zone_of s e.0, zone_of s e.1)
+    (in_contains (zone_pairs s v permits) (zone_of s e.0, zone_of s e.1) (concerned_listed s v permits (record { src = e.0; dst = e.1 }) site (record { src = ends.src; dst = ends.dst }) concerned.1 differ))
 
 -- the pairs with their rows
 pub are_pairs : (s : Site) (v : Views) (permits : List Permit) (pairs qs rs : List (ℕ × ℕ)) (forward replied : List (List ℕ)) (n : ℕ) → n ≡ length permits →

@@ -4,6 +4,8 @@ pub mod Ends
 pub mod Filled
 pub mod Entering
 pub mod Marks
+pub mod Filing
+pub mod Passing
 pub mod Nth
 pub mod PathRows
 pub mod Placing
@@ -14,7 +16,8 @@ pub mod AllConcerned
 pub mod ZonePairs
 pub mod Joining
 pub mod Walkless
+pub mod Calling
 pub mod FirstWalk
 pub mod Sighted
-pub mod Limited
+pub mod Interfaces
 pub mod Flagged

@@ -15,7 +15,7 @@ use Rattle.list_laws.proofs.Members.{from_filter, some_in, some_of, each_in, sam
 abbrev pub enters_at : ℕ → Crossing → Bool
 enters_at i c = c.enter == i
 
-abbrev is_marked : Site → ℕ → ℕ → Crossing → Bool
+abbrev pub is_marked : Site → ℕ → ℕ → Crossing → Bool
 is_marked s from to c = list_any (λ path. list_any (same_crossing c) path) (allowed_walks s from to)
 
 pub record AreIfaces (s : Site) (c : Crossing) : Type 0 where
@@ -40,7 +40,7 @@ is_listed s c h =
     step_of : ℕ × ℕ → Crossing
     step_of e = record { enter = e.0; leave = e.1 }
 
-on_walk : (s : Site) (from to : ℕ) (path : List Crossing) (c : Crossing) → IsIn path (allowed_walks s from to) → IsIn c path → IsIn c (marked_crossings s from to)
+pub on_walk : (s : Site) (from to : ℕ) (path : List Crossing) (c : Crossing) → IsIn path (allowed_walks s from to) → IsIn c path → IsIn c (marked_crossings s from to)
 on_walk s from to path c i j =
     let allowed = (from_filter (is_allowed_walk s from to) path (all_paths s) i).1 in
     let crossing = each_in (is_crossing s) path (parts_of s from to path allowed).crossings c j in
@@ -72,6 +72,11 @@ pub marked_there : (s : Site) (from to : ℕ) (c : Crossing) → IsIn c (marked_
 marked_there s from to c h =
     let m = from_filter (is_marked s from to) c (all_crossings s) h in
     (ifaces_of_crossing s c (from_filter (is_crossing s) c (all_steps s.policy) m.0).1).enter
+
+pub marked_leaves : (s : Site) (from to : ℕ) (c : Crossing) → IsIn c (marked_crossings s from to) → c.leave < length s.policy.ifaces
+marked_leaves s from to c h =
+    let m = from_filter (is_marked s from to) c (all_crossings s) h in
+    (ifaces_of_crossing s c (from_filter (is_crossing s) c (all_steps s.policy) m.0).1).leave
 
 -- there is no walk just where no crossing is marked
 pub no_walk : (s : Site) (from to : ℕ) → is_nothing (marked_crossings s from to) ≡ is_nothing (allowed_walks s from to)

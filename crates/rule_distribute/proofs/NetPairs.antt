@@ -11,7 +11,7 @@ use Rattle.policy_model.specs.Blocks.{NetPair, permit_at, no_permit, is_joined, 
 use Rattle.policy_model.proofs.AllWalks.{IsIn, in_flat_map, in_filter, in_numbers, in_pairs}
 use Rattle.list_laws.proofs.Members.{from_filter, some_in, some_of}
 use Rattle.list_laws.proofs.Tables.{from_flat_map}
-use Rattle.rule_distribute.specs.Given.{ArePermits}
+use Rattle.permit_lines.specs.Given.{AreKnown}
 use Rattle.rule_distribute.specs.Pairs.{IsBefore, AreOnce}
 use Rattle.rule_distribute.specs.Rows.{net_arcs, ends_of, HasAll}
 use Rattle.rule_distribute.proofs.Rising.{rising_same, rises_by_places, contains_in, in_contains}
@@ -29,7 +29,7 @@ tuple_same a b c d e f = ap (λ (x : ℕ). let r : ℕ × ℕ = (x, b) in r) e �
 turned : (x y : ℕ) → (x == y) ≡ false → (y == x) ≡ false
 turned x y f = false_from_ne_true (y == x) (λ u. both_truths (x == y) f (eq-eqb x y (sym (eqb-true y x u))))
 
-module _ (s : Site) (permits : List Permit) (given : ArePermits s.policy permits) where
+module _ (s : Site) (permits : List Permit) (given : AreKnown s.policy permits) where
   abbrev wanted : ℕ × ℕ → Bool
   wanted e = is_joined_pair s permits (record { src = e.0; dst = e.1 })
 
@@ -49,8 +49,8 @@ module _ (s : Site) (permits : List Permit) (given : ArePermits s.policy permits
       let same : permit_at permits c.0 ≡ q = get_or_default permits c.0 no_permit q c.1 ∙ c.2 in
       let a = ap (λ (x : Permit). x.src.net) same in
       let b = ap (λ (x : Permit). x.dst.net) same in
-      let u = given.srcs c.0 c.1 in
-      let w = given.dsts c.0 c.1 in
+      let u = (given.each c.0 c.1).src_end.there in
+      let w = (given.each c.0 c.1).dst_end.there in
       record { src = omega (arith, a, u); dst = omega (arith, b, w) }
 
   pub listed : (e : ℕ × ℕ) → e.0 < length s.policy.nets → e.1 < length s.policy.nets → is_joined permits (named e) ≡ true → (zone_of s e.0 == zone_of s e.1) ≡ false → IsIn e (filter wanted all)

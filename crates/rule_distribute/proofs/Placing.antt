@@ -1,6 +1,6 @@
 -- The blocks from rows are those that are defined.
 use Rattle.std.proofs.Common.{◌≡◌, ℕ, suc, ◌+◌, ◌-◌, ◌<◌, ◌≤◌, inl, inr, Bool, true, false, cond, not, ◌&&◌, ◌||◌, List, [], ◌∷◌, ◌++◌, length, map, flat_map, refl, sym, ap, subst, ◌∙◌, ⊎_elim, arith, slice_index_or}
-use Rattle.std.specs.Prelude.{◌==◌, Some, is_some, filter, slice_index}
+use Rattle.std.specs.Prelude.{◌==◌, Option, None, Some, is_some, filter, slice_index}
 use Rattle.std.specs.List.{list_any, range_with_len, enumerate_from}
 use Rattle.std.specs.Option.{option_map_or}
 use Rattle.std.proofs.lemmas.Bool.{both_ways as both_truths, and_parts, and_from, or_cases, or_left, or_right, eqb-true, eq-eqb, not-true, not_from_false, false_from_ne_true, false≢true}
@@ -16,16 +16,16 @@ use Rattle.policy_model.specs.Places.{prefix_in, length_in}
 use Rattle.policy_model.specs.Permits.{Permit, has_replies}
 use Rattle.policy_model.specs.Filters.{Line}
 use Rattle.policy_model.specs.Walks.{is_allowed_walk, all_paths, allowed_walks}
-use Rattle.policy_model.specs.Blocks.{NetPair, Block, all_pairs, is_ios_at, is_on_path, pairs_on_path, places_where, permit_at, no_permit, permits_between, replied_between, is_round, is_seen, view_here, is_closed, block_of, is_needed, depth_of, placement, is_joined, is_joined_pair, is_concerned}
+use Rattle.policy_model.specs.Blocks.{NetPair, Block, all_pairs, places_replies_at, is_on_path, pairs_on_path, places_where, permit_at, no_permit, permits_between, replied_between, is_part_of, is_round, is_seen, view_here, is_closed, block_of, is_needed, depth_of, placement, is_joined, is_joined_pair, is_concerned}
 use Rattle.policy_model.proofs.AllWalks.{IsIn, in_map, in_filter, in_numbers, from_map, parts_of}
 use Rattle.policy_model.proofs.Views.{list_any_map}
 use Rattle.list_laws.proofs.Members.{from_filter, filter_same, some_in, some_of, same_truth, in_either}
 use Rattle.list_laws.proofs.Tables.{from_flat_map}
-use Rattle.acl_build.specs.Pieces.{forward_lines, mirrored_lines}
+use Rattle.permit_lines.specs.Pieces.{forward_lines, mirrored_lines}
 use Rattle.closed_pairs.specs.Reaching.{PairNumbers, permits_here, lines_between, reaches_pair, encloses_in}
 use Rattle.rule_distribute.specs.Concerned.{is_concerned_pair}
 use Rattle.rule_distribute.specs.Paths.{is_on_way, path_row}
-use Rattle.rule_distribute.specs.Placed.{Pairs, row_at, ArePairsOf, numbers_at, is_shut, told_closed, block_at, is_filled, shallow, is_in_bucket, bucket, placed}
+use Rattle.rule_distribute.specs.Placed.{Pairs, row_at, ArePairsOf, numbers_at, is_seen_at, is_shut, told_closed, block_at, is_filled, shallow, is_in_bucket, bucket, placed}
 use Rattle.rule_distribute.specs.Rows.{pair_at, ends_of, same_pair, belongs}
 use Rattle.rule_distribute.proofs.Rising.{contains_in, in_contains}
 use Rattle.rule_distribute.proofs.Concerns.{below_count, pair_there, joined_concerned}
@@ -86,11 +86,9 @@ places_are test permits = numbered test (λ k. test (permit_at permits k)) no_pe
 abbrev named : ℕ × ℕ → NetPair
 named e = record { src = e.0; dst = e.1 }
 
--- A network's prefix in the view is there, and has the length of its own.
-pub record IsShown (p : Policy) (view : List ℕ) (n : ℕ) : Type 0 where
-  pub prefix : Cidr
-  pub is : prefix_in p view n ≡ Some prefix
-  pub length_is : prefix.len ≡ (net_of p n).own.len
+-- A network's prefix in the view, if it is there, has the length of its own.
+pub record KeepsLength (p : Policy) (view : List ℕ) (n : ℕ) : Type 0 where
+  pub length_is : is_some (prefix_in p view n) ≡ true → length_in p view n ≡ (net_of p n).own.len
   pub short : (net_of p n).own.len ≤ 32
 
 pair_from : (a b : ℕ × ℕ) → a.0 ≡ b.0 → a.1 ≡ b.1 → same_pair a b ≡ true
@@ -99,7 +97,7 @@ pair_from a b e f = and_from (a.0 == b.0) (a.1 == b.1) (eq-eqb a.0 b.0 e) (eq-eq
 -- what is kept for an interface
 pub record AreKept (s : Site) (v : Views) (permits : List Permit) (i : ℕ) (j : Pairs) : Type 0 where
   pub pairs : ArePairsOf s v permits j
-  pub shown : (n : ℕ) → n < length s.policy.nets → IsShown s.policy (view_here s v permits i) n
+  pub lengths : (n : ℕ) → n < length s.policy.nets → KeepsLength s.policy (view_here s v permits i) n
   pub zone : zone_at s i < zone_count s
 
 module _ (s : Site) (v : Views) (permits : List Permit) (i : ℕ) (j : Pairs) (kept : AreKept s v permits i j) where
@@ -110,13 +108,20 @@ module _ (s : Site) (v : Views) (permits : List Permit) (i : ℕ) (j : Pairs) (k
   wanted e = is_concerned_pair s v permits (record { src = e.0; dst = e.1 })
 
   abbrev told : Bool
-  told = is_ios_at s.policy i
+  told = places_replies_at s.policy i
 
   abbrev here : List ℕ
   here = view_here s v permits i
 
+  -- the pairs on path, and those of them that are seen
+  abbrev way : List ℕ
+  way = path_row s j.pairs (length j.pairs) i
+
+  abbrev seen : ℕ → Bool
+  seen w = is_seen_at s.policy here j w
+
   abbrev row : List ℕ
-  row = path_row s j.pairs (length j.pairs) i
+  row = filter seen way
 
   abbrev shut : ℕ → Bool
   shut w = is_shut s.policy here permits j told row w
@@ -282,12 +287,28 @@ module _ (s : Site) (v : Views) (permits : List Permit) (i : ℕ) (j : Pairs) (k
   outer_wanted : (e : ℕ × ℕ) (o : IsOuter e) → wanted o.pair ≡ true
   outer_wanted e o = joined_concerned s v permits o.pair o.there o.joined (way_differs o.pair o.on_path)
 
+  -- what is part of something is there, and so is that
+  part_seen : (q r : Option Cidr) → is_part_of q r ≡ true → is_some r ≡ true
+  part_seen (Some q) (Some r) h = refl
+  part_seen (Some q) None h = absurd (false≢true h)
+  part_seen None (Some r) h = absurd (false≢true h)
+  part_seen None None h = absurd (false≢true h)
+
+  round_seen : (outer e : NetPair) → encloses_in s.policy here outer e ≡ true → is_seen s.policy here outer ≡ true
+  round_seen outer e h =
+      let a = (and_parts (not ((outer.src == e.src) && (outer.dst == e.dst))) (is_round s.policy here outer e) h).1 in
+      let b = and_parts (is_part_of (prefix_in s.policy here e.src) (prefix_in s.policy here outer.src)) (is_part_of (prefix_in s.policy here e.dst) (prefix_in s.policy here outer.dst)) a in
+      and_from (is_some (prefix_in s.policy here outer.src)) (is_some (prefix_in s.policy here outer.dst))
+      (part_seen (prefix_in s.policy here e.src) (prefix_in s.policy here outer.src) b.0)
+      (part_seen (prefix_in s.policy here e.dst) (prefix_in s.policy here outer.dst) b.1)
+
   -- that pair has its place in the row
   outer_place : (e : ℕ × ℕ) (o : IsOuter e) → (x : ℕ) × IsIn x row × (◌≡◌ {A = ℕ × ℕ} (pair_at j.pairs x) o.pair)
   outer_place e o =
       let c = in_contains j.pairs o.pair (subst (IsIn o.pair) (sym kept.pairs.pairs) (in_filter wanted o.pair all o.there (outer_wanted e o))) in
       let is : ◌≡◌ {A = ℕ × ℕ} (pair_at j.pairs c.0) o.pair = get_or_default j.pairs c.0 (0, 0) o.pair c.1 ∙ c.2 in
-      (c.0, in_filter (is_on_way s j.pairs i) c.0 (numbers_below (length j.pairs)) (in_numbers (length j.pairs) c.0 c.1) (subst (λ (p : ℕ × ℕ). on p ≡ true) (sym is) o.on_path), is)
+      let on_way = in_filter (is_on_way s j.pairs i) c.0 (numbers_below (length j.pairs)) (in_numbers (length j.pairs) c.0 c.1) (subst (λ (p : ℕ × ℕ). on p ≡ true) (sym is) o.on_path) in
+      (c.0, in_filter seen c.0 way on_way (subst (λ (p : ℕ × ℕ). is_seen s.policy here (named p) ≡ true) (sym is) (round_seen (named o.pair) (named e) o.round)), is)
 
   row_closes : (e : ℕ × ℕ) (x : ℕ) → x < length j.pairs → reached_from (named e) (inner e) (numbers_at j told x) ≡ closed_by e (named (pair_at j.pairs x))
   row_closes e x h = ap (reached_from (named e) (inner e)) (numbers_are x h)
@@ -298,7 +319,7 @@ module _ (s : Site) (v : Views) (permits : List Permit) (i : ℕ) (j : Pairs) (k
       same_truth (list_any test row) (list_any (closed_by e) (pairs_on_path s i))
       (λ t.
       let x = some_in test row t in
-      let m = from_filter (is_on_way s j.pairs i) x.0 (numbers_below (length j.pairs)) x.1 in
+      let m = from_filter (is_on_way s j.pairs i) x.0 (numbers_below (length j.pairs)) (from_filter seen x.0 way x.1).0 in
       let below = below_count (length j.pairs) x.0 m.0 in
       let p = pair_at j.pairs x.0 in
       some_of (closed_by e) (named p) (pairs_on_path s i) (in_filter (is_on_path s i) (named p) (all_pairs s.policy) (in_map named p all (pair_wanted x.0 below).0) m.1) (sym (row_closes e x.0 below) ∙ x.2))
@@ -306,7 +327,7 @@ module _ (s : Site) (v : Views) (permits : List Permit) (i : ℕ) (j : Pairs) (k
       let o = some_in (closed_by e) (pairs_on_path s i) t in
       let outer = outer_of e o.0 o.1 o.2 in
       let x = outer_place e outer in
-      let below = below_count (length j.pairs) x.0 (from_filter (is_on_way s j.pairs i) x.0 (numbers_below (length j.pairs)) x.1).0 in
+      let below = below_count (length j.pairs) x.0 (from_filter (is_on_way s j.pairs i) x.0 (numbers_below (length j.pairs)) (from_filter seen x.0 way x.1).0).0 in
       some_of test x.0 row x.1 (row_closes e x.0 below ∙ (ap (λ (p : ℕ × ℕ). closed_by e (named p)) x.2 ∙ outer.closes)))
 
   -- a pair is closed just where a pair of the row closes it
@@ -380,30 +401,23 @@ module _ (s : Site) (v : Views) (permits : List Permit) (i : ℕ) (j : Pairs) (k
       (λ t. let e = eqb-true (64 - a) b t in eq-eqb a (64 - b) (omega (arith, e, ha, hb)))
       (λ t. let e = eqb-true a (64 - b) t in eq-eqb (64 - a) b (omega (arith, e, ha, hb)))
 
-  own_length : (n : ℕ) → n < length s.policy.nets → length_in s.policy here n ≡ (net_of s.policy n).own.len
-  own_length n h = let w = kept.shown n h in ap (λ o. option_map_or (λ (q : Cidr). q.len) o 0) w.is ∙ w.length_is
-
-  deep_is : (k : ℕ) (e : ℕ × ℕ) → k < 65 → IsIn e all → (shallow s.policy e == k) ≡ deep k e
-  deep_is k e hk h =
+  deep_is : (k : ℕ) (e : ℕ × ℕ) → k < 65 → IsIn e all → is_seen s.policy here (named e) ≡ true → (shallow s.policy e == k) ≡ deep k e
+  deep_is k e hk h visible =
       let there = pair_there s (named e) (in_map named e all h) in
-      let a = own_length e.0 there.src in
-      let b = own_length e.1 there.dst in
-      let x = (kept.shown e.0 there.src).short in
-      let y = (kept.shown e.1 there.dst).short in
+      let two = and_parts (is_some (prefix_in s.policy here e.0)) (is_some (prefix_in s.policy here e.1)) visible in
+      let a = (kept.lengths e.0 there.src).length_is two.0 in
+      let b = (kept.lengths e.1 there.dst).length_is two.1 in
+      let x = (kept.lengths e.0 there.src).short in
+      let y = (kept.lengths e.1 there.dst).short in
       same_deep ((net_of s.policy e.0).own.len + (net_of s.policy e.1).own.len) k (omega (arith, x, y)) (omega (arith, hk))
       ∙ ap (λ (d : ℕ). d == 64 - k) (let f : (net_of s.policy e.0).own.len + (net_of s.policy e.1).own.len ≡ depth_of s v permits i (named e) = omega (arith, a, b) in f)
 
-  seen_here : (e : ℕ × ℕ) → IsIn e all → is_seen s.policy here (named e) ≡ true
-  seen_here e h =
-      let there = pair_there s (named e) (in_map named e all h) in
-      and_from _ _ (ap is_some (kept.shown e.0 there.src).is) (ap is_some (kept.shown e.1 there.dst).is)
-
-  need_is : (e : ℕ × ℕ) → IsIn e all → is_filled (block_for e) ≡ need e
-  need_is e h = sym (ap (λ b. b && is_filled (block_for e)) (seen_here e h))
-
-  and_assoc : (a b c : Bool) → (a && (b && c)) ≡ ((a && b) && c)
-  and_assoc true b c = refl
-  and_assoc false b c = refl
+  -- a seen pair on path with a filled block, at its depth
+  passes_is : (a b c d f : Bool) → (b ≡ true → d ≡ f) → (a && (b && (c && d))) ≡ ((a && (b && c)) && f)
+  passes_is true true true d f h = h refl
+  passes_is true true false d f h = refl
+  passes_is true false c d f h = refl
+  passes_is false b c d f h = refl
 
   abbrev with_shut : ℕ → ℕ × Bool
   with_shut w = (w, shut w)
@@ -417,14 +431,15 @@ module _ (s : Site) (v : Views) (permits : List Permit) (i : ℕ) (j : Pairs) (k
       ap (map (block_at j told)) (filter_map (is_in_bucket s.policy j told k) with_shut row)
       ∙ (map_map (block_at j told) with_shut (filter (λ w. is_in_bucket s.policy j told k (with_shut w)) row)
       ∙ (ap (map (λ w. block_at j told (with_shut w)))
-      (filter_twice (is_on_way s j.pairs i) (λ w. is_in_bucket s.policy j told k (with_shut w)) X
-      ∙ filter_same (λ w. is_on_way s j.pairs i w && is_in_bucket s.policy j told k (with_shut w)) (λ w. passes k (P w)) X
+      (filter_twice seen (λ w. is_in_bucket s.policy j told k (with_shut w)) way
+      ∙ (filter_twice (is_on_way s j.pairs i) (λ w. seen w && is_in_bucket s.policy j told k (with_shut w)) X
+      ∙ filter_same (λ w. is_on_way s j.pairs i w && (seen w && is_in_bucket s.policy j told k (with_shut w))) (λ w. passes k (P w)) X
       (λ w m.
       let e = P w in
       let there = (pair_wanted w (inside w m)).0 in
-      let filled : is_filled (block_at j told (with_shut w)) ≡ need e = ap is_filled (block_is w (inside w m)) ∙ need_is e there in
-      and_assoc (on e) (is_filled (block_at j told (with_shut w))) (shallow s.policy e == k)
-      ∙ (ap (λ b. (on e && b) && (shallow s.policy e == k)) filled ∙ ap (λ b. (on e && need e) && b) (deep_is k e hk there))))
+      let filled : is_filled (block_at j told (with_shut w)) ≡ is_filled (block_for e) = ap is_filled (block_is w (inside w m)) in
+      ap (λ b. on e && (seen w && (b && (shallow s.policy e == k)))) filled
+      ∙ passes_is (on e) (seen w) (is_filled (block_for e)) (shallow s.policy e == k) (deep k e) (λ t. deep_is k e hk there t))))
       ∙ (map_same (λ w. block_at j told (with_shut w)) (λ w. block_for (P w)) (filter (λ w. passes k (P w)) X) (λ w m. block_is w (inside w (from_filter (λ w. passes k (P w)) w X m).0))
       ∙ (sym (map_map block_for P (filter (λ w. passes k (P w)) X))
       ∙ ap (map block_for)

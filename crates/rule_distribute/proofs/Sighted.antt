@@ -1,50 +1,21 @@
--- What a policy in memory shows of its networks: none is hidden, and prefixes keep their lengths.
-use Rattle.std.proofs.Common.{◌≡◌, ℕ, ◌<◌, ◌≤◌, ◌⊎◌, inl, inr, Bool, true, false, cond, List, [], ◌∷◌, length, map, refl, sym, ap, subst, ◌∙◌, ⊎_elim, arith, slice_index_or}
-use Rattle.std.specs.Prelude.{Option, Some, option_map, unwrap_or, find, is_none}
-use Rattle.std.proofs.lemmas.Bool.{cases_lt}
-use Rattle.std.proofs.lemmas.List.{get_or-map, get_or_past, length-map}
+-- What a policy in memory shows of its networks: a prefix in a view is as long as the network's own.
+use Rattle.std.proofs.Common.{◌≡◌, ℕ, ◌<◌, ◌≤◌, Bool, true, false, cond, List, [], ◌∷◌, length, map, refl, sym, ap, subst, ◌∙◌, arith, slice_index_or}
+use Rattle.std.specs.Prelude.{Option, None, Some, option_map, unwrap_or, find, is_some, IsTrue}
+use Rattle.std.specs.List.{list_all}
+use Rattle.std.specs.Option.{option_map_or}
+use Rattle.std.proofs.lemmas.Bool.{and_parts, eqb-true, false≢true}
+use Rattle.std.proofs.lemmas.List.{get_or-map, length-map}
 use Rattle.spoc_base.specs.Address.{Cidr}
 use Rattle.spoc_base.specs.Shown.{cidr_of}
-use Rattle.spoc_base.specs.declared.address.Prefix.{Prefix}
-use Rattle.spoc_base.specs.declared.ids.TagId.{TagId}
 use Rattle.policy_model.specs.Lists.{has}
 use Rattle.policy_model.specs.Policy.{Net, no_net, net_of}
-use Rattle.policy_model.specs.Places.{prefix_in}
+use Rattle.policy_model.specs.Places.{prefix_in, length_in}
 use Rattle.topology.specs.Seen.{net_seen}
+use Rattle.topology.specs.Sound.{keeps_length}
 use Rattle.topology.specs.View.{policy_of, sources_of}
 use Rattle.topology.specs.declared.items.Network.{Network}
 use Rattle.topology.specs.declared.topo.Topo.{Topo}
-use Rattle.nat_view.specs.Shown.{nat_seen}
-use Rattle.nat_view.proofs.Finding.{kept_length}
-use Rattle.rule_distribute.proofs.FirstWalk.{NoneHidden}
-use Rattle.rule_distribute.proofs.Placing.{IsShown}
-
--- a translation that is found is there
-record IsFound (test : ℕ × Option Cidr → Bool) (nats : List (TagId × Prefix)) (own : Cidr) (seen : Option Cidr) : Type 0 where
-  pub prefix : Cidr
-  pub is : seen ≡ Some prefix
-  pub kept : (own ≡ prefix) ⊎ (◌≡◌ {A = Option (Option Cidr)} (Some (Some prefix)) (option_map (λ nat. nat.1) (find test (map nat_seen nats))))
-
-found : (test : ℕ × Option Cidr → Bool) (nats : List (TagId × Prefix)) (own : Cidr) → IsFound test nats own (unwrap_or (option_map (λ nat. nat.1) (find test (map nat_seen nats))) (Some own))
-found test [] own = record { prefix = own; is = refl; kept = inl refl }
-found test (x ∷ xs) own = at (test (nat_seen x)) refl (found test xs own)
-  where
-    at : (b : Bool) → test (nat_seen x) ≡ b → IsFound test xs own (unwrap_or (option_map (λ nat. nat.1) (find test (map nat_seen xs))) (Some own)) →
-        IsFound test (x ∷ xs) own (unwrap_or (option_map (λ nat. nat.1) (find test (map nat_seen (x ∷ xs)))) (Some own))
-    at true t rest =
-        let e : find test (map nat_seen (x ∷ xs)) ≡ Some (nat_seen x) = ap (λ b. cond b (Some (nat_seen x)) (find test (map nat_seen xs))) t in
-        record {
-          prefix = cidr_of x.1;
-          is = ap (λ o. unwrap_or (option_map (λ nat. nat.1) o) (Some own)) e;
-          kept = inr (sym (ap (λ o. option_map (λ nat. nat.1) o) e));
-        }
-    at false t rest =
-        let e : find test (map nat_seen (x ∷ xs)) ≡ find test (map nat_seen xs) = ap (λ b. cond b (Some (nat_seen x)) (find test (map nat_seen xs))) t in
-        record {
-          prefix = rest.prefix;
-          is = ap (λ o. unwrap_or (option_map (λ nat. nat.1) o) (Some own)) e ∙ rest.is;
-          kept = ⊎_elim (λ a. inl a) (λ b. inr (b ∙ sym (ap (λ o. option_map (λ nat. nat.1) o) e))) rest.kept;
-        }
+use Rattle.rule_distribute.proofs.Placing.{KeepsLength}
 
 -- each network that is there is one in memory
 record IsSeen (topo : Topo) (n : ℕ) : Type 0 where
@@ -63,33 +34,34 @@ seen topo n h =
     let d = first_of nets n below in
     record { net = slice_index_or nets n d; is = get_or-map (net_seen (sources_of topo)) nets n d no_net below }
 
-prefix_there : (topo : Topo) (view : List ℕ) (n : ℕ) (x : Network) → net_of (policy_of topo) n ≡ net_seen (sources_of topo) x → IsFound (λ nat. has view nat.0) x.nats.now (cidr_of x.own) (prefix_in (policy_of topo) view n)
-prefix_there topo view n x e =
-    subst (IsFound (λ nat. has view nat.0) x.nats.now (cidr_of x.own)) (sym (ap (λ (net : Net). unwrap_or (option_map (λ nat. nat.1) (find (λ nat. has view nat.0) net.nats)) (Some net.own)) e))
-    (found (λ nat. has view nat.0) x.nats.now (cidr_of x.own))
+-- what a translation shows, and the own prefix where there is none
+abbrev shown_of : Cidr → Option (ℕ × Option Cidr) → Option Cidr
+shown_of own o = unwrap_or (option_map (λ nat. nat.1) o) (Some own)
 
--- a network's prefix in a view is there, and as long as its own
-pub shown : (topo : Topo) (view : List ℕ) (n : ℕ) → n < length (policy_of topo).nets → IsShown (policy_of topo) view n
-shown topo view n h =
+-- a translation that is found keeps the length, if it shows a prefix
+kept : (test : ℕ × Option Cidr → Bool) (own : Cidr) (nats : List (ℕ × Option Cidr)) → list_all (λ nat. keeps_length own nat.1) nats ≡ true →
+    is_some (shown_of own (find test nats)) ≡ true → option_map_or (λ (q : Cidr). q.len) (shown_of own (find test nats)) 0 ≡ own.len
+kept test own [] all h = refl
+kept test own (nat ∷ nats) all h =
+    let a = and_parts (keeps_length own nat.1) (list_all (λ x. keeps_length own x.1) nats) all in
+    go (test nat) (kept test own nats a.1) h
+  where
+    one : (q : Option Cidr) → keeps_length own q ≡ true → is_some q ≡ true → option_map_or (λ (q : Cidr). q.len) q 0 ≡ own.len
+    one None k i = absurd (false≢true i)
+    one (Some q) k i = eqb-true q.len own.len k
+
+    go : (b : Bool) → (is_some (shown_of own (find test nats)) ≡ true → option_map_or (λ (q : Cidr). q.len) (shown_of own (find test nats)) 0 ≡ own.len) →
+        is_some (shown_of own (cond b (Some nat) (find test nats))) ≡ true → option_map_or (λ (q : Cidr). q.len) (shown_of own (cond b (Some nat) (find test nats))) 0 ≡ own.len
+    go true later i = one nat.1 (and_parts (keeps_length own nat.1) (list_all (λ x. keeps_length own x.1) nats) all).0 i
+    go false later i = later i
+
+-- a network's prefix in a view is as long as its own
+pub keeps : (topo : Topo) (view : List ℕ) (n : ℕ) → n < length (policy_of topo).nets → KeepsLength (policy_of topo) view n
+keeps topo view n h =
     let p = policy_of topo in
     let w = seen topo n h in
-    let x = w.net in
-    let f = prefix_there topo view n x w.is in
-    let own : (net_of p n).own ≡ cidr_of x.own = ap (λ (net : Net). net.own) w.is in
+    let own : (net_of p n).own ≡ cidr_of w.net.own = ap (λ (net : Net). net.own) w.is in
     record {
-      prefix = f.prefix;
-      is = f.is;
-      length_is = ⊎_elim (λ (e : cidr_of x.own ≡ f.prefix). sym (ap (λ (q : Cidr). q.len) (own ∙ e)))
-          (λ e. kept_length p n view f.prefix (topo.kept.sound.well_formed.nats n h) (map nat_seen x.nats.now) (ap (λ (net : Net). net.nats) w.is) e) f.kept;
-      short = subst (λ (k : ℕ). k ≤ 32) (sym (ap (λ (q : Cidr). q.len) own)) x.own.short;
+      length_is = kept (λ nat. has view nat.0) (net_of p n).own (net_of p n).nats (topo.kept.sound.well_formed.nats n h);
+      short = subst (λ (k : ℕ). k ≤ 32) (sym (ap (λ (q : Cidr). q.len) own)) w.net.own.short;
     }
-
--- none is hidden
-pub none_hidden : (topo : Topo) (zones : List ℕ) → NoneHidden (record { policy = policy_of topo; zones = zones })
-none_hidden topo zones view n = ⊎_elim here past (cases_lt n (length (policy_of topo).nets))
-  where
-    here : n < length (policy_of topo).nets → is_none (prefix_in (policy_of topo) view n) ≡ false
-    here h = ap is_none (shown topo view n h).is
-
-    past : length (policy_of topo).nets ≤ n → is_none (prefix_in (policy_of topo) view n) ≡ false
-    past h = ap (λ (net : Net). is_none (unwrap_or (option_map (λ nat. nat.1) (find (λ nat. has view nat.0) net.nats)) (Some net.own))) (get_or_past (policy_of topo).nets n no_net h)

@@ -70,10 +70,10 @@ tie_then Less p = refl
 tie_then Equal p = refl
 tie_then Greater p = refl
 
-ties : (x y : ℕ × ℕ) → pair_eq x y ≡ is_eq (pair_cmp x y)
+pub ties : (x y : ℕ × ℕ) → pair_eq x y ≡ is_eq (pair_cmp x y)
 ties x y = ap (λ b. b && eqb x.1 y.1) (tie_nat x.0 y.0) ∙ (ap (λ b. is_eq (nat_cmp x.0 y.0) && b) (tie_nat x.1 y.1) ∙ sym (tie_then (nat_cmp x.0 y.0) (nat_cmp x.1 y.1)))
 
-pair_is : (x y : ℕ × ℕ) → pair_eq x y ≡ true → x ≡ y
+pub pair_is : (x y : ℕ × ℕ) → pair_eq x y ≡ true → x ≡ y
 pair_is x y h =
     let w = and_parts (eqb x.0 y.0) (eqb x.1 y.1) h in
     ap (λ (n : ℕ). let r : ℕ × ℕ = (n, x.1) in r) (eqb-true x.0 y.0 w.0) ∙ ap (λ (n : ℕ). let r : ℕ × ℕ = (y.0, n) in r) (eqb-true x.1 y.1 w.1)

@@ -13,7 +13,7 @@ use Rattle.policy_model.specs.Blocks.{permit_at, no_permit}
 use Rattle.policy_model.specs.Faults.{has_no_path}
 use Rattle.policy_model.proofs.AllWalks.{IsIn, in_filter, in_numbers}
 use Rattle.list_laws.proofs.Members.{from_filter, some_in, some_of}
-use Rattle.rule_distribute.specs.Given.{ArePermits}
+use Rattle.permit_lines.specs.Given.{AreKnown}
 use Rattle.rule_distribute.specs.Lacking.{lacks_walk, IsFirstLacking, NoneLacks}
 use Rattle.rule_distribute.specs.Pairs.{IsBefore}
 use Rattle.rule_distribute.specs.Placed.{Pairs, row_at, HaveRows, ArePairsOf}
@@ -41,7 +41,7 @@ filled : (xs : List ℕ) (x : ℕ) → IsIn x xs → not (is_nothing xs) ≡ tru
 filled [] x i = absurd i
 filled (y ∷ ys) x i = refl
 
-module _ (s : Site) (v : Views) (permits : List Permit) (j : Pairs) (given : ArePermits s.policy permits) (are : ArePairsOf s v permits j) where
+module _ (s : Site) (v : Views) (permits : List Permit) (j : Pairs) (given : AreKnown s.policy permits) (are : ArePairsOf s v permits j) where
   record IsLackingFor (q : Permit) : Type 0 where
     pub place : ℕ
     pub below : place < length j.pairs

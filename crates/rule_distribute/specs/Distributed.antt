@@ -1,14 +1,16 @@
--- What is placed at the interfaces of managed routers, and which fault comes first of permits without a path, hidden ends and too many lines.
-use Rattle.std.specs.Prelude.{◌≡◌, ℕ, List, map, filter}
+-- What is placed at the interfaces of managed routers, and which fault comes first of permits without a path and of hidden ends.
+use Rattle.std.specs.Prelude.{◌≡◌, ℕ, ◌<◌, ◌&&◌, ◌==◌, not, List, length, map, filter, IsTrue}
+use Rattle.std.specs.List.{list_any}
 use Rattle.spoc_base.specs.declared.place.Source.{Source}
 use Rattle.spoc_base.specs.declared.fault.Fault.{Fault}
 use Rattle.policy_model.specs.Policy.{Policy, router_at, is_managed, all_ifaces}
-use Rattle.policy_model.specs.Zones.{Site}
+use Rattle.policy_model.specs.Zones.{Site, zone_count}
 use Rattle.policy_model.specs.Tags.{Views}
 use Rattle.policy_model.specs.Permits.{Permit}
-use Rattle.policy_model.specs.Blocks.{Block, placement}
-use Rattle.policy_model.specs.Headline.{Meaning, permits_in}
-use Rattle.topology.specs.First.{HasNone, TellsFirst}
+use Rattle.policy_model.specs.Blocks.{Block, placement, permit_at}
+use Rattle.policy_model.specs.Faults.{has_no_path, is_hidden_end}
+use Rattle.policy_model.specs.FirstFault.{FaultCase, NoPath, HiddenEnd, is_lower, order_of}
+use Rattle.topology.specs.Told.{IsTold}
 use Rattle.permit_set.specs.declared.block.Placement.{Placement}
 use Rattle.rule_distribute.specs.Shown.{block_seen}
 
@@ -24,10 +26,20 @@ managed_ifaces p = filter (λ i. is_managed p (router_at p i)) (all_ifaces p)
 abbrev pub placed_at : Site → Views → List Permit → List (ℕ × List Block)
 placed_at s v permits = map (λ i. (i, placement s v permits i)) (managed_ifaces s.policy)
 
--- no meaning with these zones, views and permits has a permit without a path, a hidden end, or too many lines
-abbrev pub IsClear : Site → Views → List Permit → Type 0
-IsClear s v permits = (m : Meaning) → m.site ≡ s → m.views ≡ v → permits_in m ≡ permits → HasNone m 9 11
+-- The permits have the fault: one between the two networks has no path, or an end of this one is hidden in this zone of an allowed walk.
+abbrev pub HasWalkFault : Site → Views → List Permit → FaultCase → Type 0
+HasWalkFault s v permits (NoPath u w) = IsTrue (list_any (λ q. (q.src.net == u) && (q.dst.net == w) && has_no_path s q) permits)
+HasWalkFault s v permits (HiddenEnd k u w n z) =
+    (k < length permits) × (z < zone_count s) × IsTrue (is_hidden_end s v (permit_at permits k) n z) × ((permit_at permits k).src.net ≡ u) × ((permit_at permits k).dst.net ≡ w)
+HasWalkFault s v permits _ = ⊥
 
--- the first of these faults is told
-abbrev pub TellsWalk : List Source → Site → Views → List Permit → Fault → Type 0
-TellsWalk sources s v permits fault = (m : Meaning) → m.site ≡ s → m.views ≡ v → permits_in m ≡ permits → TellsFirst sources m 9 11 fault
+-- They have none.
+abbrev pub IsClear : Site → Views → List Permit → Type 0
+IsClear s v permits = (f : FaultCase) → HasWalkFault s v permits f → ⊥
+
+-- They have the fault that is told, and none that comes before it.
+pub record TellsWalk (sources : List Source) (s : Site) (v : Views) (permits : List Permit) (told : Fault) : Type 0 where
+  pub case : FaultCase
+  pub there : HasWalkFault s v permits case
+  pub first : (g : FaultCase) → HasWalkFault s v permits g → IsTrue (not (is_lower (order_of permits g) (order_of permits case)))
+  pub tells : IsTold sources s case told

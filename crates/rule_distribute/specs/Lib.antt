@@ -1,10 +1,10 @@
 pub mod Pairs
-pub mod Given
 pub mod Rows
 pub mod Paths
 pub mod Placed
 pub mod Shown
 pub mod Lacking
+pub mod Hidden
 pub mod Distributed
 pub mod Concerned
 pub mod Nested

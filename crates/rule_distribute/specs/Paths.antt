@@ -1,5 +1,7 @@
 -- At which interfaces walks enter, by tables of marks.
-use Rattle.std.specs.Prelude.{◌≡◌, ℕ, ◌<◌, ◌-◌, ◌==◌, Bool, if◌then◌else◌, List, [], ◌∷◌, ◌++◌, filter, length, map, slice_get, slice_index, slice_index_or}
+use Rattle.std.specs.Prelude.{◌≡◌, ℕ, ◌<◌, ◌-◌, ◌==◌, Bool, true, if◌then◌else◌, Some, is_some, List, [], ◌∷◌, ◌++◌, filter, length, map, slice_get, slice_index, slice_index_or}
+use Rattle.std.specs.BTreeMap.{BTreeMap}
+use Rattle.std.specs.BTreeMap.{get}
 use Rattle.std.specs.List.{list_any, Contains}
 use Rattle.policy_model.specs.Lists.{numbers_below}
 use Rattle.policy_model.specs.Paths as plain
@@ -9,6 +11,7 @@ use Rattle.policy_model.specs.Marks.{marked_crossings}
 use Rattle.policy_model.specs.Walks.{enters_on_way}
 use Rattle.zone_graph.specs.declared.marks.Crossing.{Crossing}
 use Rattle.zone_graph.specs.declared.marks.PairMarks.{PairMarks}
+use Rattle.rule_distribute.specs.Pairs.{pair_order}
 use Rattle.rule_distribute.specs.Rows.{pair_at}
 
 abbrev pub crossing_seen : Crossing → plain.Crossing
@@ -18,10 +21,19 @@ crossing_seen c = record { enter = c.enter.0; leave = c.leave.0 }
 abbrev pub zones_named : PairMarks → ℕ × ℕ
 zones_named t = (t.from.0, t.to.0)
 
--- The tables are those of these pairs of zones, in order, and have the crossings of all allowed walks.
+-- Each table has the crossings of all allowed walks between its zones.
+abbrev pub AreMarked : Site → List PairMarks → Type 0
+AreMarked s tables = (k : ℕ) (t : PairMarks) → k < length tables → slice_index_or tables k t ≡ t → map crossing_seen t.marks.crossings ≡ marked_crossings s t.from.0 t.to.0
+
+-- Each of these pairs of zones has a table, in any order, and others may have one too.
 pub record HaveMarks (s : Site) (wanted : List (ℕ × ℕ)) (tables : List PairMarks) : Type 0 where
-  pub names : map zones_named tables ≡ wanted
-  pub marks : (k : ℕ) (t : PairMarks) → k < length tables → slice_index_or tables k t ≡ t → map crossing_seen t.marks.crossings ≡ marked_crossings s t.from.0 t.to.0
+  pub there : (e : ℕ × ℕ) → Contains wanted e → Contains (map zones_named tables) e
+  pub marks : AreMarked s tables
+
+-- The first of these pairs, so many, are found at their places, or where such a pair stands again; and no other is.
+pub record AreFiled (names : List (ℕ × ℕ)) (count : ℕ) (places : BTreeMap (ℕ × ℕ) ℕ) : Type 0 where
+  pub there : (k : ℕ) → k < count → is_some (get pair_order places (pair_at names k)) ≡ true
+  pub at : (e : ℕ × ℕ) (k : ℕ) → get pair_order places e ≡ Some k → (k < count) × (pair_at names k ≡ e)
 
 -- whether the list ends in the number
 abbrev pub ends_in : List ℕ → ℕ → Bool

@@ -6,7 +6,7 @@ use Rattle.policy_model.specs.Policy.{Policy, net_of}
 use Rattle.policy_model.specs.Zones.{Site}
 use Rattle.policy_model.specs.Tags.{Views}
 use Rattle.policy_model.specs.Permits.{Permit}
-use Rattle.policy_model.specs.Blocks.{Block}
+use Rattle.policy_model.specs.Blocks.{Block, is_seen}
 use Rattle.closed_pairs.specs.Reaching.{PairNumbers, is_closed_among}
 use Rattle.rule_distribute.specs.Concerned.{concerned_pairs}
 use Rattle.rule_distribute.specs.Rows.{pair_at, row_below}
@@ -48,6 +48,10 @@ numbers_at j told w =
       forward = row_at j.forward w;
       mirrored = if told then row_at j.replied w else [];
     }
+
+-- neither network of the w-th pair is hidden
+abbrev pub is_seen_at : Policy → List ℕ → Pairs → ℕ → Bool
+is_seen_at p view j w = is_seen p view (record { src = (pair_at j.pairs w).0; dst = (pair_at j.pairs w).1 })
 
 -- whether the w-th pair has to be closed, as a line of some pair of the row reaches into it
 abbrev pub is_shut : Policy → List ℕ → List Permit → Pairs → Bool → List ℕ → ℕ → Bool

@@ -1,4 +1,6 @@
 -- What clauses see of blocks, and of the pairs that are kept.
+use Rattle.std.specs.Prelude.{ℕ}
+use Rattle.spoc_base.specs.declared.ids.ZoneId.{ZoneId}
 use Rattle.policy_model.specs.Blocks as plain
 use Rattle.zone_graph.specs.Grouped.{row_items}
 use Rattle.permit_set.specs.declared.block.PairBlock.{PairBlock}
@@ -10,3 +12,6 @@ block_seen b = record { pair = record { src = b.src.0; dst = b.dst.0 }; forward 
 
 abbrev pub pairs_seen : Joined → Pairs
 pairs_seen j = record { pairs = j.pairs.items; forward = row_items j.forward.items; replied = row_items j.replied.items }
+
+abbrev pub zones_seen : ZoneId × ZoneId → ℕ × ℕ
+zones_seen z = (z.0.0, z.1.0)

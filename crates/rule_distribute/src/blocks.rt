@@ -4,8 +4,8 @@ ghost use Rattle.topology.specs.View.{policy_of};
 ghost use Rattle.zone_graph.specs.Grouped.{row_items, IsGraphOf};
 ghost use Rattle.nat_view.specs.Views.{seen_of};
 ghost use Rattle.permit_set.specs.Shown.{permit_of};
-ghost use Rattle.rule_distribute.specs.Given.{site_with, ArePermits};
-ghost use Rattle.rule_distribute.specs.Placed.{row_at, ArePairsOf, block_at, is_filled as is_block_filled, shallow as shallow_of};
+ghost use Rattle.permit_lines.specs.Given.{site_with, AreKnown};
+ghost use Rattle.rule_distribute.specs.Placed.{row_at, HaveRows, ArePairsOf, block_at, is_filled as is_block_filled, shallow as shallow_of};
 ghost use Rattle.rule_distribute.specs.Rows.{pair_at};
 ghost use Rattle.rule_distribute.specs.Shown.{block_seen, pairs_seen};
 
@@ -25,14 +25,15 @@ pub(crate) type Place = (usize, bool);
 /// The pairs of networks on which what is placed depends, in order: with each the numbers of the
 /// permits from the first to the second, and of those of the way back that have replies.
 #[derive(Drop)]
-pub(crate) struct Joined {
+pub struct Joined {
     pub(crate) pairs: Vec<Pair>,
     pub(crate) forward: Vec<Vec<u32>>,
     pub(crate) replied: Vec<Vec<u32>>,
 }
 
-/// The pairs that the permits join, and those inside such a pair, with their permits.
-pub(crate) fn join(
+/// The pairs that the permits join, and those inside such a pair as some zone sees them, with their
+/// permits. It fails for want of memory alone.
+pub fn join(
     alloc: Global,
     topo: Topo<'_>,
     graph: &ZoneGraph,
@@ -42,9 +43,10 @@ pub(crate) fn join(
     requires graph { IsGraphOf (policy_of topo) graph.now }
     requires policy { (seen_of views.now).policy ≡ policy_of topo }
     requires zones { length (seen_of views.now).views.zones ≡ length graph.now.nets }
-    requires permits { ArePermits (policy_of topo) (map permit_of permits.now) }
+    requires permits { AreKnown (policy_of topo) (map permit_of permits.now) }
     requires few { length permits.now < 4294967296 }
-    ensures { IfOk result (λ joined. ArePairsOf (site_with (policy_of topo.entry) graph.now) (seen_of views.now).views (map permit_of permits.now) (pairs_seen joined)) }
+    ensures pairs { IfOk result (λ joined. ArePairsOf (site_with (policy_of topo.entry) graph.now) (seen_of views.now).views (map permit_of permits.now) (pairs_seen joined)) }
+    ensures rows { IfOk result (λ joined. HaveRows (policy_of topo.entry) (pairs_seen joined)) }
 {
     let pairs = concerned(alloc, topo, graph, views, permits)?;
     let forward = permit_rows(alloc, topo, graph, &pairs, permits, false)?;

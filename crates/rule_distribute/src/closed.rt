@@ -3,7 +3,7 @@ ghost use Rattle.std.specs.List.{All, AllPairs};
 ghost use Rattle.zone_graph.specs.Grouped.{row_items};
 ghost use Rattle.permit_set.specs.Shown.{permit_of};
 ghost use Rattle.nat_view.specs.Sights.{sight_of};
-ghost use Rattle.acl_build.specs.Given.{AreKnown};
+ghost use Rattle.permit_lines.specs.Given.{AreKnown};
 ghost use Rattle.closed_pairs.specs.Seen.{pair_seen};
 ghost use Rattle.rule_distribute.specs.Pairs.{IsBefore};
 ghost use Rattle.rule_distribute.specs.Placed.{row_at, HaveRows, AreLess, numbers_at, told_closed};

@@ -8,7 +8,7 @@ ghost use Rattle.nat_view.specs.Views.{seen_of};
 ghost use Rattle.permit_set.specs.Shown.{permit_of};
 ghost use Rattle.closed_pairs.specs.Seen.{nets_seen};
 ghost use Rattle.rule_distribute.specs.Concerned.{concerned_pairs};
-ghost use Rattle.rule_distribute.specs.Given.{site_with, ArePermits};
+ghost use Rattle.permit_lines.specs.Given.{site_with, AreKnown};
 ghost use Rattle.rule_distribute.specs.Nested.{AreNets, numbers_of, parted, nested_in};
 ghost use Rattle.rule_distribute.specs.Pairs.{IsBefore};
 ghost use Rattle.rule_distribute.specs.Rows.{HasAll};
@@ -115,7 +115,7 @@ pub(crate) fn concerned(
     requires graph { IsGraphOf (policy_of topo) graph.now }
     requires policy { (seen_of views.now).policy ≡ policy_of topo }
     requires zones { length (seen_of views.now).views.zones ≡ length graph.now.nets }
-    requires permits { ArePermits (policy_of topo) (map permit_of permits.now) }
+    requires permits { AreKnown (policy_of topo) (map permit_of permits.now) }
     ensures order { IfOk result (λ v. AllPairs IsBefore v.items) }
     ensures all { IfOk result (λ v. HasAll graph.now.zones v.items (map permit_of permits.now)) }
     ensures pairs { IfOk result (λ v. v.items ≡ concerned_pairs (site_with (policy_of topo.entry) graph.now) (seen_of views.now).views (map permit_of permits.now)) }

@@ -6,7 +6,7 @@ ghost use Rattle.policy_model.specs.Policy.{all_nets};
 ghost use Rattle.topology.specs.View.{policy_of};
 ghost use Rattle.zone_graph.specs.Grouped.{IsGraphOf};
 ghost use Rattle.permit_set.specs.Shown.{permit_of};
-ghost use Rattle.rule_distribute.specs.Given.{site_with, ArePermits};
+ghost use Rattle.permit_lines.specs.Given.{site_with, AreKnown};
 ghost use Rattle.rule_distribute.specs.Pairs.{IsBefore};
 ghost use Rattle.rule_distribute.specs.Rows.{HasAll, net_arcs};
 
@@ -39,7 +39,7 @@ fn joined_nets(
     permits: &[Permit],
 ) -> Result<Vec<Pair>, NoMemory>
     requires graph { IsGraphOf (policy_of topo) graph.now }
-    requires permits { ArePermits (policy_of topo) (map permit_of permits.now) }
+    requires permits { AreKnown (policy_of topo) (map permit_of permits.now) }
     ensures { IfOk result (λ v. v.items ≡ flat_map (λ q. net_arcs graph.now.zones (permit_of q)) permits.now) }
 {
     let mut pairs = Vec::new(alloc);
@@ -57,7 +57,7 @@ pub(crate) fn net_pairs(
     permits: &[Permit],
 ) -> Result<Vec<Pair>, NoMemory>
     requires graph { IsGraphOf (policy_of topo) graph.now }
-    requires permits { ArePermits (policy_of topo) (map permit_of permits.now) }
+    requires permits { AreKnown (policy_of topo) (map permit_of permits.now) }
     ensures order { IfOk result (λ v. AllPairs IsBefore v.items) }
     ensures all { IfOk result (λ v. HasAll graph.now.zones v.items (map permit_of permits.now)) }
     ensures pairs { IfOk result (λ v. v.items ≡ filter (λ e. is_joined_pair (site_with (policy_of topo.entry) graph.now) (map permit_of permits.now) (record { src = e.0; dst = e.1 })) (pairs_of (all_nets (policy_of topo.entry)) (all_nets (policy_of topo.entry)))) }

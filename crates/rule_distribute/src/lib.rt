@@ -6,16 +6,20 @@
 mod blocks;
 mod closed;
 mod concerned;
+mod hidden;
 mod joined;
 mod managed;
+mod naming;
 mod pairs;
 mod paths;
 mod placement;
 mod places;
 mod rows;
+mod seen;
 mod sight;
 mod unjoined;
 mod zones;
 
+pub use blocks::{Joined, join};
 pub use places::distribute;
 pub use zones::zone_pairs;

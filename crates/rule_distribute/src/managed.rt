@@ -1,10 +1,10 @@
 ghost use Rattle.std.specs.Prelude.{◌≡◌, ◌<◌, ◌++◌, ◌∷◌, [], if◌then◌else◌, length, map, IfOk};
-ghost use Rattle.policy_model.specs.Blocks.{is_ios_at as runs_ios_at};
+ghost use Rattle.policy_model.specs.Blocks.{places_replies_at as replies_at};
 ghost use Rattle.policy_model.specs.Policy.{router_at, is_managed};
 ghost use Rattle.topology.specs.View.{policy_of};
 ghost use Rattle.rule_distribute.specs.Distributed.{managed_ifaces as managed};
 
-use spoc_base::{Dialect, IfId, NoMemory};
+use spoc_base::{IfId, NoMemory};
 use std::alloc::Global;
 use topology::Topo;
 
@@ -16,16 +16,13 @@ fn is_managed_at(topo: Topo<'_>, i: IfId) -> bool
     topo.router(topo.iface(i).router).device.is_some()
 }
 
-/// Whether the interface's router runs IOS, whose lists have to pass replies too.
-pub(crate) fn is_ios_at(topo: Topo<'_>, i: IfId) -> bool
+/// Whether the lists of the interface's router have lines for replies.
+pub(crate) fn places_replies_at(topo: Topo<'_>, i: IfId) -> bool
     requires { i.0 < length (policy_of topo).ifaces }
-    ensures { result ≡ runs_ios_at (policy_of topo.entry) i.0 }
+    ensures { result ≡ replies_at (policy_of topo.entry) i.0 }
 {
     match topo.router(topo.iface(i).router).device {
-        Some(device) => match device.dialect {
-            Dialect::Ios => true,
-            Dialect::Asa => false,
-        },
+        Some(device) => device.dialect.places_replies(),
         None => false,
     }
 }

@@ -1,16 +1,17 @@
 ghost use Rattle.std.specs.Prelude.{◌≡◌, ◌<◌, ℕ, length, map, set, IfOk, [], slice_index, slice_index_or};
-ghost use Rattle.std.specs.List.{AllPairs, Contains};
+ghost use Rattle.std.specs.List.{Contains};
 ghost use Rattle.policy_model.specs.Marks.{marked_crossings};
 ghost use Rattle.topology.specs.View.{policy_of};
 ghost use Rattle.zone_graph.specs.Grouped.{row_items, AreEmpty, HasGroups, IsGraphOf};
-ghost use Rattle.rule_distribute.specs.Given.{site_with};
-ghost use Rattle.rule_distribute.specs.Pairs.{IsBefore};
-ghost use Rattle.rule_distribute.specs.Paths.{ends_in, with_last, with_entered, AreLow, EnterBelow, HaveMarks, AreNamed, crossing_seen, zones_named, path_row};
+ghost use Rattle.permit_lines.specs.Given.{site_with};
+ghost use Rattle.zone_graph.specs.declared.marks.PairMarks.{PairMarks as Marked};
+ghost use Rattle.rule_distribute.specs.Paths.{ends_in, with_last, with_entered, AreLow, EnterBelow, AreMarked, AreFiled, AreNamed, crossing_seen, zones_named, path_row};
 
 use crate::pairs::Pair;
-use crate::rows::{add, empty_rows, place_of};
+use crate::rows::{add, empty_rows};
 use spoc_base::{NetId, NoMemory};
 use std::alloc::Global;
+use std::collections::BTreeMap;
 use topology::Topo;
 use zone_graph::{Crossing, PairMarks, ZoneGraph};
 
@@ -65,35 +66,48 @@ fn zones_of(graph: &ZoneGraph, pair: Pair) -> Pair
     (from.0, to.0)
 }
 
-/// The zones of each table.
-pub(crate) fn names_of(alloc: Global, tables: &[PairMarks]) -> Result<Vec<Pair>, NoMemory>
-    ensures { IfOk result (λ v. v.items ≡ map zones_named tables.now) }
+/// The places of tables by their pairs of zones.
+pub(crate) type Places = BTreeMap<Pair, usize>;
+
+/// The place of the table of each pair of zones that has one.
+pub(crate) fn places_of(alloc: Global, tables: &[PairMarks]) -> Result<Places, NoMemory>
+    ensures { IfOk result (AreFiled (map zones_named tables.now) (length tables.now)) }
 {
-    let mut names = Vec::new(alloc);
-    for t in tables {
-        names.push((t.from.0, t.to.0))?;
+    let mut places = BTreeMap::new(alloc);
+    for k in 0..tables.len() {
+        places.insert((tables[k].from.0, tables[k].to.0), k)?;
     }
-    Ok(names)
+    Ok(places)
+}
+
+// The crossings of a table, by its place.
+fn crossings_at<'t>(tables: &'t [PairMarks], k: usize) -> &'t [Crossing]
+    requires { k < length tables.now }
+    ensures { (t : Marked) → result.now ≡ (slice_index_or tables.now k t).marks.crossings }
+{
+    tables[k].marks.crossings.items()
 }
 
 /// The crossings of the walks between the zones of a pair of networks.
 pub(crate) fn crossings_of<'t>(
     topo: Topo<'_>,
     graph: &ZoneGraph,
-    names: &[Pair],
+    places: &Places,
     tables: &'t [PairMarks],
     pair: Pair,
 ) -> &'t [Crossing]
     requires graph { IsGraphOf (policy_of topo) graph.now }
     requires src { pair.0 < length (policy_of topo).nets }
     requires dst { pair.1 < length (policy_of topo).nets }
-    requires order { AllPairs IsBefore names.now }
-    requires marks { HaveMarks (site_with (policy_of topo) graph.now) names.now tables.now }
-    requires named { Contains names.now (slice_index graph.now.zones pair.0, slice_index graph.now.zones pair.1) }
+    requires places { AreFiled (map zones_named tables.now) (length tables.now) places.now }
+    requires marks { AreMarked (site_with (policy_of topo) graph.now) tables.now }
+    requires named { Contains (map zones_named tables.now) (slice_index graph.now.zones pair.0, slice_index graph.now.zones pair.1) }
     ensures { map crossing_seen result.now ≡ marked_crossings (site_with (policy_of topo.entry) graph.now) (slice_index graph.now.zones pair.0) (slice_index graph.now.zones pair.1) }
 {
-    let place = place_of(names, zones_of(graph, pair));
-    tables[place].marks.crossings.items()
+    match places.get(&zones_of(graph, pair)) {
+        Some(k) => crossings_at(tables, *k),
+        None => unreachable!(),
+    }
 }
 
 // Puts each pair into the rows of the interfaces at which its walks enter.
@@ -101,20 +115,20 @@ fn fill_paths(
     topo: Topo<'_>,
     graph: &ZoneGraph,
     pairs: &[Pair],
-    names: &[Pair],
+    places: &Places,
     tables: &[PairMarks],
     rows: &mut [Vec<usize>],
 ) -> Result<(), NoMemory>
     requires graph { IsGraphOf (policy_of topo) graph.now }
-    requires order { AllPairs IsBefore names.now }
-    requires marks { HaveMarks (site_with (policy_of topo) graph.now) names.now tables.now }
-    requires named { AreNamed (site_with (policy_of topo) graph.now) pairs.now names.now }
+    requires places { AreFiled (map zones_named tables.now) (length tables.now) places.now }
+    requires marks { AreMarked (site_with (policy_of topo) graph.now) tables.now }
+    requires named { AreNamed (site_with (policy_of topo) graph.now) pairs.now (map zones_named tables.now) }
     requires empty { AreEmpty (row_items rows.old) (length (policy_of topo).ifaces) }
     ensures each { length rows.new ≡ length rows.old }
     ensures rows { IfOk result (λ done. HasGroups (λ w. w) (row_items rows.new) (path_row (site_with (policy_of topo.entry) graph.now) pairs.now (length pairs.now))) }
 {
     for w in 0..pairs.len() {
-        let crossings = crossings_of(topo, graph, names, tables, pairs[w]);
+        let crossings = crossings_of(topo, graph, places, tables, pairs[w]);
         add_pair(rows, crossings, w)?;
     }
     Ok(())
@@ -126,17 +140,17 @@ pub(crate) fn path_rows(
     topo: Topo<'_>,
     graph: &ZoneGraph,
     pairs: &[Pair],
-    names: &[Pair],
+    places: &Places,
     tables: &[PairMarks],
 ) -> Result<Vec<Vec<usize>>, NoMemory>
     requires graph { IsGraphOf (policy_of topo) graph.now }
-    requires order { AllPairs IsBefore names.now }
-    requires marks { HaveMarks (site_with (policy_of topo) graph.now) names.now tables.now }
-    requires named { AreNamed (site_with (policy_of topo) graph.now) pairs.now names.now }
+    requires places { AreFiled (map zones_named tables.now) (length tables.now) places.now }
+    requires marks { AreMarked (site_with (policy_of topo) graph.now) tables.now }
+    requires named { AreNamed (site_with (policy_of topo) graph.now) pairs.now (map zones_named tables.now) }
     ensures each { IfOk result (λ rows. length rows.items ≡ length (policy_of topo.entry).ifaces) }
     ensures rows { IfOk result (λ rows. HasGroups (λ w. w) (row_items rows.items) (path_row (site_with (policy_of topo.entry) graph.now) pairs.now (length pairs.now))) }
 {
     let mut rows = empty_rows(alloc, topo.ifaces().len())?;
-    fill_paths(topo, graph, pairs, names, tables, &mut rows)?;
+    fill_paths(topo, graph, pairs, places, tables, &mut rows)?;
     Ok(rows)
 }

@@ -5,7 +5,7 @@ ghost use Rattle.policy_model.specs.Permits.{has_replies as are_replied};
 ghost use Rattle.topology.specs.View.{policy_of};
 ghost use Rattle.zone_graph.specs.Grouped.{row_items, HasGroups, AreEmpty, IsGraphOf};
 ghost use Rattle.permit_set.specs.Shown.{permit_of};
-ghost use Rattle.rule_distribute.specs.Given.{ArePermits};
+ghost use Rattle.permit_lines.specs.Given.{AreKnown};
 ghost use Rattle.rule_distribute.specs.Pairs.{IsBefore};
 ghost use Rattle.rule_distribute.specs.Rows.{pair_at, ends_of, belongs, row_below, HasAll};
 
@@ -94,7 +94,7 @@ fn add_permit(
     k: u32,
 ) -> Result<(), NoMemory>
     requires graph { IsGraphOf (policy_of topo) graph.now }
-    requires permits { ArePermits (policy_of topo) (map permit_of permits.now) }
+    requires permits { AreKnown (policy_of topo) (map permit_of permits.now) }
     requires order { AllPairs IsBefore pairs.now }
     requires all { HasAll graph.now.zones pairs.now (map permit_of permits.now) }
     requires below { k < length permits.now }
@@ -122,7 +122,7 @@ fn fill(
     rows: &mut [Vec<u32>],
 ) -> Result<(), NoMemory>
     requires graph { IsGraphOf (policy_of topo) graph.now }
-    requires permits { ArePermits (policy_of topo) (map permit_of permits.now) }
+    requires permits { AreKnown (policy_of topo) (map permit_of permits.now) }
     requires few { length permits.now < 4294967296 }
     requires order { AllPairs IsBefore pairs.now }
     requires all { HasAll graph.now.zones pairs.now (map permit_of permits.now) }
@@ -147,7 +147,7 @@ pub(crate) fn permit_rows(
     back: bool,
 ) -> Result<Vec<Vec<u32>>, NoMemory>
     requires graph { IsGraphOf (policy_of topo) graph.now }
-    requires permits { ArePermits (policy_of topo) (map permit_of permits.now) }
+    requires permits { AreKnown (policy_of topo) (map permit_of permits.now) }
     requires few { length permits.now < 4294967296 }
     requires order { AllPairs IsBefore pairs.now }
     requires all { HasAll graph.now.zones pairs.now (map permit_of permits.now) }

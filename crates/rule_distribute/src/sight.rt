@@ -6,10 +6,10 @@ ghost use Rattle.topology.specs.View.{policy_of};
 ghost use Rattle.zone_graph.specs.Grouped.{IsGraphOf};
 ghost use Rattle.nat_view.specs.Sights.{sight_of};
 ghost use Rattle.nat_view.specs.Views.{seen_of};
-ghost use Rattle.rule_distribute.specs.Given.{site_with};
+ghost use Rattle.permit_lines.specs.Given.{site_with};
 
 use nat_view::{View, Views};
-use spoc_base::{IfId, NetId};
+use spoc_base::{IfId, NetId, ZoneId};
 use topology::Topo;
 use zone_graph::ZoneGraph;
 
@@ -20,6 +20,16 @@ fn net_of(topo: Topo<'_>, i: IfId) -> NetId
     ensures below { result.0 < length (policy_of topo.entry).nets }
 {
     topo.iface(i).net
+}
+
+/// The zone in which an interface stands.
+pub(crate) fn zone_at(topo: Topo<'_>, graph: &ZoneGraph, i: IfId) -> ZoneId
+    requires graph { IsGraphOf (policy_of topo) graph.now }
+    requires there { i.0 < length (policy_of topo).ifaces }
+    ensures value { result.0 ≡ zone_at (site_with (policy_of topo.entry) graph.now) i.0 }
+    ensures below { result.0 < length graph.now.nets }
+{
+    graph.zone_of(net_of(topo, i))
 }
 
 /// The view of the zone in which an interface stands.
@@ -34,6 +44,5 @@ pub(crate) fn view_at<'v>(
     requires there { i.0 < length (policy_of topo).ifaces }
     ensures { sight_of result ≡ record { policy = (seen_of views.now).policy; tags = zone_view (seen_of views.now).views (zone_at (site_with (policy_of topo.entry) graph.now) i.0) } }
 {
-    let net = net_of(topo, i);
-    views.zone(graph.zone_of(net))
+    views.zone(zone_at(topo, graph, i))
 }

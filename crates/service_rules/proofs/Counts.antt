@@ -55,3 +55,6 @@ ends_counted items objects same s count e f g =
 
 pub count_begins : (n m most : ℕ) → n ≡ m → min (0 + n) most ≡ min m most
 count_begins n m most e = omega (arith, e)
+
+pub none_counted : (n most : ℕ) → n ≡ 0 → 0 ≡ min n most
+none_counted n most e = omega (arith, e)

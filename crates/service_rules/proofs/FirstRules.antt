@@ -7,7 +7,7 @@ use Rattle.spoc_base.specs.declared.fault.Fault.{Fault}
 use Rattle.spoc_base.specs.declared.fault.Fault.TheVariants as fault
 use Rattle.spoc_base.specs.declared.ids.IfId.{IfId}
 use Rattle.policy_model.specs.Zones.{Site}
-use Rattle.policy_model.specs.Permits.{permits_of}
+use Rattle.policy_model.specs.Permits.{listed_permits, listed_denials, permits_of, permit_count}
 use Rattle.policy_model.specs.Headline.{Meaning, permits_in}
 use Rattle.policy_model.specs.FirstFault.{FaultCase, AreaSplit, NatConflict, NatTwice, NatInside, LimitViews, SamePrefix, HostShadowed, IfaceShadowed, ManagedEnd, LimitPermits, NoPath, HiddenEnd, LimitLines, LimitRoutes, NoHopAddress, AmbiguousHop, HasFault, is_lower, order_of, most_items}
 use Rattle.topology.specs.First.{IsWithin, TellsFirst, HasNone}
@@ -35,7 +35,7 @@ not_before k i l j f g =
 -- no service has such an end, and there are not too many permits
 pub record IsClear (s : Site) (areas : List (List ℕ)) : Type 0 where
   pub ends : NoneBefore s areas (length s.policy.services)
-  pub few : length (permits_of s areas) ≤ most_items
+  pub few : permit_count s areas ≤ most_items
 
 module _ (m : Meaning) (is : IsClear m.site m.areas) where
   pub none : HasNone m 7 8
@@ -48,9 +48,9 @@ module _ (m : Meaning) (is : IsClear m.site m.areas) where
   none LimitViews w h = absurd (omega (arith, w.lower))
   none (SamePrefix net other at) w h = absurd (omega (arith, w.lower))
   none (HostShadowed host net at) w h = absurd (omega (arith, w.lower))
-  none (IfaceShadowed iface net at) w h = absurd (omega (arith, w.lower))
+  none (IfaceShadowed iface shared net at) w h = absurd (omega (arith, w.lower))
   none (NoPath src dst) w h = absurd (omega (arith, w.upper))
-  none (HiddenEnd permit net zone) w h = absurd (omega (arith, w.upper))
+  none (HiddenEnd permit src dst net zone) w h = absurd (omega (arith, w.upper))
   none LimitLines w h = absurd (omega (arith, w.upper))
   none LimitRoutes w h = absurd (omega (arith, w.upper))
   none (NoHopAddress router net iface) w h = absurd (omega (arith, w.upper))
@@ -75,9 +75,9 @@ module _ (m : Meaning) (k : ℕ) (i : IfId) (at : IsEndAt m.site m.areas k i) wh
   first_end LimitViews w h = absurd (omega (arith, w.lower))
   first_end (SamePrefix net other place) w h = absurd (omega (arith, w.lower))
   first_end (HostShadowed host net place) w h = absurd (omega (arith, w.lower))
-  first_end (IfaceShadowed iface net place) w h = absurd (omega (arith, w.lower))
+  first_end (IfaceShadowed iface shared net place) w h = absurd (omega (arith, w.lower))
   first_end (NoPath src dst) w h = absurd (omega (arith, w.upper))
-  first_end (HiddenEnd permit net zone) w h = absurd (omega (arith, w.upper))
+  first_end (HiddenEnd permit src dst net zone) w h = absurd (omega (arith, w.upper))
   first_end LimitLines w h = absurd (omega (arith, w.upper))
   first_end LimitRoutes w h = absurd (omega (arith, w.upper))
   first_end (NoHopAddress router net iface) w h = absurd (omega (arith, w.upper))
@@ -106,7 +106,7 @@ tells_end sources k i told s areas is m e f = tells_at sources k i told m (at_me
 
 pub record IsTooMuch (s : Site) (areas : List (List ℕ)) : Type 0 where
   pub ends : NoneBefore s areas (length s.policy.services)
-  pub many : most_items < length (permits_of s areas)
+  pub many : most_items < permit_count s areas
 
 module _ (m : Meaning) (is : IsTooMuch m.site m.areas) where
   pub first_limit : (g : FaultCase) → IsWithin 7 8 g → HasFault m g → IsTrue (not (is_lower (order_of (permits_in m) g) (order_of (permits_in m) LimitPermits)))
@@ -119,9 +119,9 @@ module _ (m : Meaning) (is : IsTooMuch m.site m.areas) where
   first_limit LimitViews w h = absurd (omega (arith, w.lower))
   first_limit (SamePrefix net other place) w h = absurd (omega (arith, w.lower))
   first_limit (HostShadowed host net place) w h = absurd (omega (arith, w.lower))
-  first_limit (IfaceShadowed iface net place) w h = absurd (omega (arith, w.lower))
+  first_limit (IfaceShadowed iface shared net place) w h = absurd (omega (arith, w.lower))
   first_limit (NoPath src dst) w h = absurd (omega (arith, w.upper))
-  first_limit (HiddenEnd permit net zone) w h = absurd (omega (arith, w.upper))
+  first_limit (HiddenEnd permit src dst net zone) w h = absurd (omega (arith, w.upper))
   first_limit LimitLines w h = absurd (omega (arith, w.upper))
   first_limit LimitRoutes w h = absurd (omega (arith, w.upper))
   first_limit (NoHopAddress router net iface) w h = absurd (omega (arith, w.upper))

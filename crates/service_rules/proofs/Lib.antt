@@ -3,3 +3,4 @@ pub mod LeastEnds
 pub mod Counts
 pub mod Rules
 pub mod FirstRules
+pub mod Limits

@@ -1,15 +1,16 @@
 -- Rules and services that are gone through one by one.
-use Rattle.std.proofs.Common.{◌≡◌, ◌∙◌, ℕ, zero, suc, ◌+◌, ◌<◌, ◌≤◌, Bool, true, false, ◌&&◌, ◌||◌, List, [], ◌∷◌, ◌++◌, length, map, flat_map, drop, refl, sym, ap, arith, append_assoc, append-nil, slice_index_or}
-use Rattle.std.specs.Prelude.{min}
-use Rattle.std.specs.List.{list_all}
-use Rattle.std.proofs.lemmas.Bool.{and_parts}
+use Rattle.std.proofs.Common.{◌≡◌, ◌∙◌, ℕ, zero, suc, ◌+◌, ◌<◌, ◌≤◌, Bool, true, false, ◌&&◌, ◌||◌, List, [], ◌∷◌, ◌++◌, length, map, flat_map, drop, cond, refl, sym, ap, arith, append_assoc, append-nil, slice_index_or}
+use Rattle.std.specs.Prelude.{filter, min}
+use Rattle.std.specs.List.{list_all, list_any}
+use Rattle.std.proofs.lemmas.Bool.{and_parts, false≢true}
 use Rattle.std.proofs.lemmas.List.{length-append}
 use Rattle.spoc_base.specs.declared.place.Source.{Source}
 use Rattle.policy_model.specs.Policy as plain
 use Rattle.policy_model.specs.Policy.{Policy}
 use Rattle.policy_model.specs.Zones.{Site}
 use Rattle.policy_model.specs.Objects.{Object, objects_of}
-use Rattle.policy_model.specs.Permits.{Permit, rule_permits, service_permits, permits_of}
+use Rattle.policy_model.specs.Permits.{Permit, rule_items, service_items}
+use Rattle.service_rules.specs.Ends.{is_action, items_if, listed}
 use Rattle.topology.specs.Seen.{rule_seen, service_seen}
 use Rattle.topology.specs.Sound.{IsSound, is_sound_rule, is_sound_service, is_sound_expr, names_user}
 use Rattle.topology.specs.declared.items.Rule.{Rule}
@@ -65,19 +66,44 @@ module _ {A : Type 0} where
 
 -- ---- permits
 
-abbrev pub rules_to_come : Site → List (List ℕ) → List Object → List Rule → List Permit
-rules_to_come s areas user rules = flat_map (rule_permits s areas user) (map rule_seen rules)
+abbrev pub rules_to_come : Site → List (List ℕ) → List Object → Bool → List Rule → List Permit
+rules_to_come s areas user deny rules = flat_map (items_if s areas user deny) (map rule_seen rules)
 
-abbrev pub services_to_come : Site → List (List ℕ) → List Source → List Service → List Permit
-services_to_come s areas sources services = flat_map (service_permits s areas) (map (service_seen sources) services)
+abbrev pub services_to_come : Site → List (List ℕ) → Bool → List Source → List Service → List Permit
+services_to_come s areas deny sources services = flat_map (service_items s areas (is_action deny)) (map (service_seen sources) services)
 
-pub service_begins : (s : Site) (areas : List (List ℕ)) (sources : List Source) (x : Service) (user : List Object) → user ≡ objects_of s areas [] (service_seen sources x).user →
-    rules_to_come s areas user x.rules.now ≡ service_permits s areas (service_seen sources x)
-service_begins s areas sources x user e = ap (λ (u : List Object). rules_to_come s areas u x.rules.now) e
+-- what those that pass give, by going through all
+given_by_those : {A B : Type 0} (test : A → Bool) (f : A → List B) (xs : List A) → flat_map (λ x. cond (test x) (f x) []) xs ≡ flat_map f (filter test xs)
+given_by_those test f [] = refl
+given_by_those {A} {B} test f (x ∷ xs) = ap (λ (l : List B). cond (test x) (f x) [] ++ l) (given_by_those test f xs) ∙ by (test x)
+  where
+    by : (b : Bool) → cond b (f x) [] ++ flat_map f (filter test xs) ≡ flat_map f (cond b (x ∷ filter test xs) (filter test xs))
+    by true = refl
+    by false = refl
 
-pub policy_begins : (s : Site) (areas : List (List ℕ)) (sources : List Source) (services : List Service) → map (service_seen sources) services ≡ s.policy.services →
-    services_to_come s areas sources services ≡ permits_of s areas
-policy_begins s areas sources services e = ap (λ l. flat_map (service_permits s areas) l) e
+pub service_begins : (s : Site) (areas : List (List ℕ)) (deny : Bool) (sources : List Source) (x : Service) (user : List Object) → user ≡ objects_of s areas [] (service_seen sources x).user →
+    rules_to_come s areas user deny x.rules.now ≡ service_items s areas (is_action deny) (service_seen sources x)
+service_begins s areas deny sources x user e =
+    ap (λ (u : List Object). rules_to_come s areas u deny x.rules.now) e
+    ∙ given_by_those (is_action deny) (rule_items s areas (objects_of s areas [] (service_seen sources x).user)) (map rule_seen x.rules.now)
+
+-- a service without a rule of the action lists nothing
+none_pass : {A B : Type 0} (test : B → Bool) (f : A → B) (xs : List A) → list_any (λ x. test (f x)) xs ≡ false → filter test (map f xs) ≡ []
+none_pass test f [] h = refl
+none_pass {A} {B} test f (x ∷ xs) h = by (none_pass test f xs) (test (f x)) h
+  where
+    by : (list_any (λ y. test (f y)) xs ≡ false → filter test (map f xs) ≡ []) → (b : Bool) → (b || list_any (λ y. test (f y)) xs) ≡ false → cond b (f x ∷ filter test (map f xs)) (filter test (map f xs)) ≡ []
+    by others true h = absurd (false≢true (sym h))
+    by others false h = others h
+
+pub nothing_listed : (s : Site) (areas : List (List ℕ)) (deny : Bool) (sources : List Source) (x : Service) (has : Bool) → has ≡ list_any (λ r. is_action deny (rule_seen r)) x.rules.now → has ≡ false →
+    service_items s areas (is_action deny) (service_seen sources x) ≡ []
+nothing_listed s areas deny sources x has e h =
+    ap (flat_map (rule_items s areas (objects_of s areas [] (service_seen sources x).user))) (none_pass (is_action deny) rule_seen x.rules.now (sym e ∙ h))
+
+pub policy_begins : (s : Site) (areas : List (List ℕ)) (deny : Bool) (sources : List Source) (services : List Service) → map (service_seen sources) services ≡ s.policy.services →
+    services_to_come s areas deny sources services ≡ listed deny s areas
+policy_begins s areas deny sources services e = ap (λ l. flat_map (service_items s areas (is_action deny)) l) e
 
 -- ---- lists that grow
 

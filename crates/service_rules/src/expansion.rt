@@ -1,8 +1,8 @@
-ghost use Rattle.std.specs.Prelude.{◌≡◌, ◌<◌, ◌≤◌, ℕ, List, length, map, IfOk, IfErr, slice_index_or};
+ghost use Rattle.std.specs.Prelude.{◌≡◌, ◌<◌, ◌≤◌, ℕ, suc, List, length, map, nat_lt, take, IfOk, IfErr, slice_index_or};
 ghost use Rattle.policy_model.specs.FirstFault.{ManagedEnd, most_items, no_service};
 ghost use Rattle.policy_model.specs.Headline.{Meaning};
 ghost use Rattle.policy_model.specs.Objects.{AreAreas};
-ghost use Rattle.policy_model.specs.Permits.{permits_of};
+ghost use Rattle.policy_model.specs.Permits.{listed_permits, permits_of};
 ghost use Rattle.topology.specs.First.{HasNone, IsRefusalOf, TellsFirst};
 ghost use Rattle.topology.specs.Told.{IsTold};
 ghost use Rattle.topology.specs.View.{policy_of, sources_of};
@@ -10,21 +10,32 @@ ghost use Rattle.zone_graph.specs.Grouped.{IsGraphOf};
 ghost use Rattle.group_expand.specs.Seen.{site_of};
 ghost use Rattle.group_expand.specs.Sets.{AreTables};
 ghost use Rattle.permit_set.specs.Shown.{permit_of};
+ghost use Rattle.service_rules.specs.Ends.{listed};
 ghost use Rattle.service_rules.specs.Faults.{AreClear, TellsRule};
+ghost use Rattle.service_rules.specs.Scope.{IsScope, site_in};
 
 use crate::count::count;
 use crate::managed::first_managed;
-use crate::permits::permits;
+use crate::permits::list;
 use crate::scope::Scope;
 use group_expand::{Areas, GroupSets};
+use permit_pieces::permits_left;
 use permit_set::Permit;
-use spoc_base::{Fault, IfId, Refusal};
+use spoc_base::{Fault, IfId, NoMemory, Refusal};
 use std::alloc::Global;
 use topology::Topo;
 use zone_graph::ZoneGraph;
 
-// How many permits there may be.
-const MOST_PERMITS: u64 = 4_000_000;
+// How many permits there may be, and how many denials.
+const MOST_PERMITS: usize = 4_000_000;
+
+// Whether the rules of the action list more than may be.
+fn are_too_many(scope: &Scope<'_>, deny: bool) -> Result<bool, NoMemory>
+    requires { IsScope scope.now }
+    ensures { IfOk result (λ many. many ≡ nat_lt most_items (length (listed deny (site_in scope.now) scope.now.areas.now))) }
+{
+    Ok(count(scope, deny)? > MOST_PERMITS as u64)
+}
 
 // The fault of a rule with an interface of a managed router at an end.
 fn end_fault(topo: Topo<'_>, k: u32, i: IfId) -> Fault
@@ -38,11 +49,28 @@ fn end_fault(topo: Topo<'_>, k: u32, i: IfId) -> Fault
     }
 }
 
+// The expanded permits, or the first ones of too many. What denials leave is found only where there
+// are denials.
+fn expanded(scope: &Scope<'_>) -> Result<Vec<Permit>, NoMemory>
+    requires scope { IsScope scope.now }
+    requires few { length (listed_permits (site_in scope.now) scope.now.areas.now) ≤ most_items }
+    ensures { IfOk result (λ found. map permit_of found.items ≡ take (suc most_items) (permits_of (site_in scope.now) scope.now.areas.now)) }
+{
+    let denials = list(scope, true)?;
+    let permits = list(scope, false)?;
+    if denials.is_empty() {
+        return Ok(permits);
+    }
+    permits_left(scope.alloc, &permits, &denials, MOST_PERMITS + 1)
+}
+
 /// The permits of all services: service by service, rule by rule, each source with each
-/// destination and each protocol.
+/// destination and each protocol, and of each the pieces that all denials leave, whatever service
+/// they stand in.
 ///
 /// A refusal tells the first service with an interface of a managed router at an end of a rule, or
-/// that there are more than 4,000,000 permits, which is found before any is made.
+/// that there are more than 4,000,000 listed permits, listed denials or expanded permits. The lists
+/// are counted before any is made, and no more expanded permits are made than one above that.
 pub fn expand(
     alloc: Global,
     topo: Topo<'_>,
@@ -67,8 +95,12 @@ pub fn expand(
     if let Some((k, i)) = first_managed(&scope)? {
         return Err(Refusal::Policy(end_fault(topo, k, i)));
     }
-    if count(&scope)? > MOST_PERMITS {
+    if are_too_many(&scope, false)? || are_too_many(&scope, true)? {
         return Err(Refusal::Policy(Fault::LimitPermits));
     }
-    Ok(permits(&scope)?)
+    let permits = expanded(&scope)?;
+    if permits.len() > MOST_PERMITS {
+        return Err(Refusal::Policy(Fault::LimitPermits));
+    }
+    Ok(permits)
 }

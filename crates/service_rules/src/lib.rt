@@ -1,6 +1,8 @@
-//! The permits of services: each source of a rule with each destination and each protocol.
+//! The permits of services: each source of a rule with each destination and each protocol, without
+//! what rules deny.
 #![tactic(auto)]
 
+mod action;
 mod count;
 mod ends;
 pub mod expansion;

@@ -1,14 +1,15 @@
 ghost use Rattle.std.specs.Prelude.{◌≡◌, ◌++◌, true, map, flat_map, IfOk, OnOk};
 ghost use Rattle.spoc_base.specs.Shown.{box_of};
-ghost use Rattle.policy_model.specs.Permits.{permits_of, rule_permits, service_permits};
+ghost use Rattle.policy_model.specs.Permits.{rule_items, service_items};
 ghost use Rattle.topology.specs.Seen.{rule_seen, service_seen};
 ghost use Rattle.topology.specs.Sound.{is_sound_rule, is_sound_service};
 ghost use Rattle.topology.specs.View.{policy_of, sources_of};
 ghost use Rattle.group_expand.specs.Sets.{are_there, object_seen};
 ghost use Rattle.permit_set.specs.Shown.{end_of, permit_of};
-ghost use Rattle.service_rules.specs.Ends.{all_permits, pair_permits};
+ghost use Rattle.service_rules.specs.Ends.{all_permits, is_action, items_if, listed, pair_permits};
 ghost use Rattle.service_rules.specs.Scope.{IsScope, site_in};
 
+use crate::action::{has_rule, is_of};
 use crate::ends::ends;
 use crate::scope::Scope;
 use crate::sides::{side, user};
@@ -57,7 +58,7 @@ fn add_all(
     Ok(())
 }
 
-// Adds the permits of a rule.
+// Adds what a rule lists.
 fn add_rule(
     scope: &Scope<'_>,
     rule: &Rule<'_>,
@@ -67,38 +68,62 @@ fn add_rule(
     requires scope { IsScope scope.now }
     requires sound { is_sound_rule (policy_of scope.now.topo) (rule_seen rule.now) ≡ true }
     requires user { are_there (policy_of scope.now.topo) (map object_seen user.now) ≡ true }
-    ensures { OnOk result (map permit_of found.new.items ≡ map permit_of found.old.items ++ rule_permits (site_in scope.now) scope.now.areas.now (map object_seen user.now) (rule_seen rule.now)) }
+    ensures { OnOk result (map permit_of found.new.items ≡ map permit_of found.old.items ++ rule_items (site_in scope.now) scope.now.areas.now (map object_seen user.now) (rule_seen rule.now)) }
 {
     let srcs = ends(scope, &side(scope, rule.src, user)?)?;
     let dsts = ends(scope, &side(scope, rule.dst, user)?)?;
     add_all(&srcs, &dsts, rule.prts, found)
 }
 
-// Adds the permits of a service.
+// Adds what a rule lists, where it is of the action.
+fn add_if_action(
+    scope: &Scope<'_>,
+    rule: &Rule<'_>,
+    user: &[Object],
+    deny: bool,
+    found: &mut Vec<Permit>,
+) -> Result<(), NoMemory>
+    requires scope { IsScope scope.now }
+    requires sound { is_sound_rule (policy_of scope.now.topo) (rule_seen rule.now) ≡ true }
+    requires user { are_there (policy_of scope.now.topo) (map object_seen user.now) ≡ true }
+    ensures { OnOk result (map permit_of found.new.items ≡ map permit_of found.old.items ++ items_if (site_in scope.now) scope.now.areas.now (map object_seen user.now) deny (rule_seen rule.now)) }
+{
+    if !is_of(rule, deny) {
+        return Ok(());
+    }
+    add_rule(scope, rule, user, found)
+}
+
+// Adds what the rules of the action list in a service.
 fn add_service(
     scope: &Scope<'_>,
     service: &Service<'_>,
+    deny: bool,
     found: &mut Vec<Permit>,
 ) -> Result<(), NoMemory>
     requires scope { IsScope scope.now }
     requires sound { is_sound_service (policy_of scope.now.topo) (service_seen (sources_of scope.now.topo) service.now) ≡ true }
-    ensures { OnOk result (map permit_of found.new.items ≡ map permit_of found.old.items ++ service_permits (site_in scope.now) scope.now.areas.now (service_seen (sources_of scope.now.topo) service.now)) }
+    ensures { OnOk result (map permit_of found.new.items ≡ map permit_of found.old.items ++ service_items (site_in scope.now) scope.now.areas.now (is_action deny) (service_seen (sources_of scope.now.topo) service.now)) }
 {
+    if !has_rule(service.rules, deny) {
+        return Ok(());
+    }
     let user = user(scope, service.user)?;
     for rule in service.rules {
-        add_rule(scope, rule, &user, found)?;
+        add_if_action(scope, rule, &user, deny, found)?;
     }
     Ok(())
 }
 
-/// The permits of all services.
-pub(crate) fn permits(scope: &Scope<'_>) -> Result<Vec<Permit>, NoMemory>
+/// What the rules of the action list, service by service and rule by rule, repeats kept: the listed
+/// denials, or the listed permits.
+pub(crate) fn list(scope: &Scope<'_>, deny: bool) -> Result<Vec<Permit>, NoMemory>
     requires { IsScope scope.now }
-    ensures { IfOk result (λ found. map permit_of found.items ≡ permits_of (site_in scope.now) scope.now.areas.now) }
+    ensures { IfOk result (λ found. map permit_of found.items ≡ listed deny (site_in scope.now) scope.now.areas.now) }
 {
     let mut found = Vec::new(scope.alloc);
     for service in scope.topo.services() {
-        add_service(scope, service, &mut found)?;
+        add_service(scope, service, deny, &mut found)?;
     }
     Ok(found)
 }

@@ -55,4 +55,4 @@ first_there p g graph z h =
 pub fault_told : (sources : List Source) (s : Site) (at : ViewPlace) (holder : Holder) (m : ℕ) (name net place : Named) → IsHolderName sources s.policy holder name → IsNetName sources s.policy m net →
     IsPlaceName sources s at place → IsTold sources s (case_of at holder m) (fault.HostShadowed name net place)
 fault_told sources s at (Host h) m name net place a b c = (a, b, c)
-fault_told sources s at (Iface i) m name net place a b c = (a, b, c)
+fault_told sources s at (Iface i shared) m name net place a b c = (a, b, c)

@@ -16,6 +16,10 @@ pub none_of : {A : Type 0} (P : Type 0) (Q : A → Type 0) (o : Option A) → ((
 none_of P Q None not h = h
 none_of P Q (Some x) not h = absurd (not x refl)
 
+pub not_some : {A : Type 0} (o : Option A) → ((x : A) → o ≡ Some x → ⊥) → o ≡ None
+not_some None h = refl
+not_some (Some x) h = absurd (h x refl)
+
 pub some_of : {A : Type 0} (P : Type 0) (Q : A → Type 0) (o : Option A) (x : A) → o ≡ Some x → MatchOption o P Q → Q x
 some_of P Q None x e h = cc e
 some_of P Q (Some y) x e h = let same : y ≡ x = cc e in subst Q same h

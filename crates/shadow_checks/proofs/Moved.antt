@@ -140,6 +140,25 @@ module _ (p : Policy) (view : List ℕ) (nets : HaveNets p) (apart : AreApartIn 
         match_weaker (NoneBefore (IsOther p view n seen) near_nets count) (HasNoShadow p view n r) (λ (m : NetId). IsFirstOf (IsOther p view n seen) near_nets m.0) (λ (m : NetId). IsLeastShadow p view n r m.0) o
         (none_near count long) (λ m first. least_near m.0 first) h
 
+-- ---- hidden networks
+
+-- a hidden network has no address
+pub none_hidden : (p : Policy) (view : List ℕ) (n : ℕ) (r : Interval) → None ≡ prefix_in p view n → HasNoShadow p view n r
+none_hidden p view n r hidden m w = nowhere (moved_as w.address) (ap (λ o. option_and_then (place p view) (option_map (moved_as w.address) o)) hidden ∙ w.placed)
+  where
+    moved_as : ℕ → Cidr → ℕ
+    moved_as a seen = moved (net_of p n).own seen a
+
+    nowhere : (f : Cidr → ℕ) → option_and_then (place p view) (option_map f None) ≡ Some m → ⊥
+    nowhere f e = cc e
+
+pub no_range : (p : Policy) (view : List ℕ) (n : ℕ) (r : Interval) → None ≡ range_in p view n r → None ≡ prefix_in p view n
+no_range p view n r none = go (prefix_in p view n) none
+  where
+    go : (o : Option Cidr) → None ≡ option_map (λ seen. moved_range (net_of p n).own seen r) o → None ≡ o
+    go None e = refl
+    go (Some q) e = cc e
+
 -- ---- one address
 
 module _ (p : Policy) (view : List ℕ) (n a : ℕ) where

@@ -24,11 +24,11 @@ shadow_in p view n r m w = go (translated_address p view n w.address) w.placed
 
 pub net_in : (p : Policy) (view : List ℕ) (holder : Holder) (m : ℕ) → IsFirstHere p view holder m → m < length p.nets
 net_in p view (Host h) m here = let w = here.least.there in shadow_in p view _ _ m w
-net_in p view (Iface i) m here = let w = here.least.there.shadowed in shadow_in p view _ _ m w
+net_in p view (Iface i shared) m here = let w = here.address.least.there.shadowed in shadow_in p view _ _ m w
 
 pub holder_in : (p : Policy) (view : List ℕ) (holder : Holder) (m : ℕ) → IsFirstHere p view holder m → IsHolderIn p holder
 holder_in p view (Host h) m here = here.there
-holder_in p view (Iface i) m here = here.there
+holder_in p view (Iface i shared) m here = here.there
 
 pub place_in : (p : Policy) (v : Views) (count : ℕ) (at : ViewPlace) → length v.zones ≡ count → length v.routers ≡ length p.routers → IsTrue (has_view v at) → IsPlaceIn p count at
 place_in p v count (AtZone z) zones routers h = let low = ltb-true z (length v.zones) h in omega (arith, low, zones)

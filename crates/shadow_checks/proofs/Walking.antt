@@ -1,8 +1,8 @@
 -- Which addresses aren't placed at a network, past one that is placed at another.
-use Rattle.std.proofs.Common.{◌≡◌, ℕ, ◌+◌, ◌<◌, ◌≤◌, true, false, List, length, sym, ap, ◌∙◌, ⊎_elim, arith}
-use Rattle.std.specs.Prelude.{◌-◌, nat_lt, nat_le, Option, Some, IsTrue}
+use Rattle.std.proofs.Common.{◌≡◌, ℕ, ◌+◌, ◌<◌, ◌≤◌, true, false, List, length, refl, sym, ap, ◌∙◌, ⊎_elim, arith}
+use Rattle.std.specs.Prelude.{◌-◌, nat_lt, nat_le, Option, Some, None, is_some, IsTrue}
 use Rattle.std.specs.Option.{option_map_or}
-use Rattle.std.proofs.lemmas.Bool.{and_from, and_parts, lt-ltb, le-leb, leb-true, cases_lt, cases_Bool}
+use Rattle.std.proofs.lemmas.Bool.{and_from, and_parts, lt-ltb, le-leb, leb-true, cases_lt, cases_Bool, false≢true}
 use Rattle.std.proofs.Math.Pow.{pow_pos}
 use Rattle.spoc_base.specs.Address.{Cidr, Interval, size_of, prefix_holds, addresses, within}
 use Rattle.policy_model.specs.Policy.{Policy}
@@ -46,6 +46,17 @@ module _ (p : Policy) (view : List ℕ) (nets : HaveNets p) (apart : AreApartIn 
 
   pub placed_below : (k at : ℕ) → Some k ≡ place p view at → k < length p.nets
   placed_below k at here = (placed_at p view at k (sym here)).below
+
+-- a network at which an address is placed isn't hidden
+seen_of : (o : Option Cidr) (a : ℕ) → option_map_or (λ seen. prefix_holds seen a) o false ≡ true → is_some o ≡ true
+seen_of None a h = absurd (false≢true h)
+seen_of (Some q) a h = refl
+
+pub placed_seen : (p : Policy) (view : List ℕ) (k at : ℕ) → Some k ≡ place p view at → is_some (prefix_in p view k) ≡ true
+placed_seen p view k at here = seen_of (prefix_in p view k) at (placed_at p view at k (sym here)).holds
+
+pub none_hidden : (p : Policy) (view : List ℕ) (range : Interval) (m : ℕ) → prefix_in p view m ≡ None → HasOneAt p view range m → ⊥
+none_hidden p view range m e w = false≢true (sym (ap is_some e) ∙ placed_seen p view m w.address (sym w.placed))
 
 -- all addresses of a prefix are held
 pub in_addresses : (q : Cidr) (a : ℕ) → IsTrue (within (addresses q) a) → prefix_holds q a ≡ true

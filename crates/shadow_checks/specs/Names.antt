@@ -12,7 +12,7 @@ use Rattle.shadow_checks.specs.declared.here.Holder.TheVariants.{Host, Iface}
 -- the holder is one of the policy
 abbrev pub IsHolderIn : Policy → Holder → Type 0
 IsHolderIn p (Host h) = h.0 < length p.hosts
-IsHolderIn p (Iface i) = i.0 < length p.ifaces
+IsHolderIn p (Iface i shared) = i.0 < length p.ifaces
 
 -- the place is a zone, of which there are so many, or a router of the policy
 abbrev pub IsPlaceIn : Policy → ℕ → ViewPlace → Type 0
@@ -22,4 +22,4 @@ IsPlaceIn p zones (AtRouter r) = r < length p.routers
 -- the holder is called by this name
 abbrev pub IsHolderName : List Source → Policy → Holder → Named → Type 0
 IsHolderName sources p (Host h) named = IsNameOf kind.Host sources (host_of p h.0).name named
-IsHolderName sources p (Iface i) named = IsIfaceName sources p i.0 named
+IsHolderName sources p (Iface i shared) named = IsIfaceName sources p i.0 named

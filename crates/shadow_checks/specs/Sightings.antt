@@ -43,4 +43,4 @@ pub record IsFirst (p : Policy) (v : Views) (at : ViewPlace) (holder : Holder) (
 -- the fault of an address of the holder that lies at the network
 abbrev pub case_of : ViewPlace → Holder → ℕ → FaultCase
 case_of at (Host h) m = HostShadowed h.0 m at
-case_of at (Iface i) m = IfaceShadowed i.0 m at
+case_of at (Iface i shared) m = IfaceShadowed i.0 shared m at

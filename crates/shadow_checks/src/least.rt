@@ -51,7 +51,7 @@ pub(crate) fn address_shadow(view: View<'_>, n: NetId, a: Addr) -> Option<NetId>
 }
 
 // The same for all addresses of a range. The networks at which they may lie are inside the prefix
-// of `n`.
+// of `n`. There are none where `n` is hidden.
 fn least_inside(
     alloc: Global,
     view: View<'_>,
@@ -64,8 +64,13 @@ fn least_inside(
     requires apart { AreApartIn (sight_of view).policy (sight_of view).tags }
     ensures { IfOk result (λ found. MatchOption found (HasNoShadow (sight_of view.entry).policy (sight_of view.entry).tags n.0 (interval_of range)) (λ m. IsLeastShadow (sight_of view.entry).policy (sight_of view.entry).tags n.0 (interval_of range) m.0)) }
 {
-    let seen = view.range_in(n, range);
-    let near = view.inside(alloc, view.prefix_in(n))?;
+    let Some(here) = view.seen_prefix(n) else {
+        return Ok(None);
+    };
+    let Some(seen) = view.range_in(n, range) else {
+        return Ok(None);
+    };
+    let near = view.inside(alloc, here)?;
     Ok(first_of(view, n, &near, seen))
 }
 

@@ -44,7 +44,7 @@ pub(crate) fn holder_name(topo: Topo<'_>, holder: Holder) -> Named
 {
     match holder {
         Holder::Host(h) => host_name(topo, h),
-        Holder::Iface(i) => iface_name(topo, i),
+        Holder::Iface { iface, .. } => iface_name(topo, iface),
     }
 }
 

@@ -33,8 +33,9 @@ fn fault_of(topo: Topo<'_>, graph: &ZoneGraph, sighting: Sighting) -> Fault
     Fault::HostShadowed { name, net, at }
 }
 
-/// Refuses a policy in which, in some zone's or router's view, an address of a host or of an
-/// interface is placed at another network than its own.
+/// Refuses a policy in which, in some zone's or router's view, an address of a host, or the own or
+/// shared address of an interface, is placed at another network than its own. A network that is
+/// hidden in a view has no addresses there.
 pub fn refuse_shadowed(
     alloc: Global,
     topo: Topo<'_>,

@@ -42,15 +42,18 @@ fn next_after(view: View<'_>, m: NetId, at: u32) -> Option<u64>
     }
 }
 
-/// Whether some address of the range is placed at the network. The walk jumps over each deeper
-/// network that it meets.
+/// Whether some address of the range is placed at the network. None is where the network is hidden.
+/// The walk jumps over each deeper network that it meets.
 pub(crate) fn lies_at(view: View<'_>, m: NetId, range: AddrRange) -> bool
     requires there { m.0 < length (sight_of view).policy.nets }
     requires nets { HaveNets (sight_of view).policy }
     requires apart { AreApartIn (sight_of view).policy (sight_of view).tags }
     ensures { IsTrue result ↔ HasOneAt (sight_of view.entry).policy (sight_of view.entry).tags (interval_of range) m.0 }
 {
-    let (start, end) = common(range, view.prefix_in(m).range());
+    let Some(prefix) = view.seen_prefix(m) else {
+        return false;
+    };
+    let (start, end) = common(range, prefix.range());
     let mut at = start;
     while at < end {
         match next_after(view, m, at as u32) {

@@ -1,18 +1,19 @@
 -- The row of shadowed addresses: what may be one, as it is listed, and the test.
-use Rattle.std.proofs.Common.{◌≡◌, ℕ, ◌<◌, inl, inr, Bool, true, cond, List, [], ◌∷◌, ◌++◌, length, refl, sym, ap, subst, ◌∙◌, arith}
+use Rattle.std.proofs.Common.{◌≡◌, ℕ, ◌<◌, inl, inr, Bool, true, false, cond, List, [], ◌∷◌, ◌++◌, length, map, refl, sym, ap, subst, ◌∙◌, ⊎_elim, arith}
 use Rattle.std.specs.Prelude.{◌==◌}
 use Rattle.std.specs.Option.{option_or}
 use Rattle.std.proofs.lemmas.Bool.{ltb-true, lt-ltb}
 use Rattle.policy_model.specs.Lists.{pairs_of}
-use Rattle.policy_model.specs.Policy.{Policy, all_nets}
+use Rattle.policy_model.specs.Policy.{Policy, all_nets, all_hosts, all_ifaces}
 use Rattle.policy_model.specs.Zones.{zone_count}
 use Rattle.policy_model.specs.Permits.{Permit}
 use Rattle.policy_model.specs.FirstFault.{FaultCase, AreaSplit, NatConflict, NatTwice, NatInside, LimitViews, SamePrefix, HostShadowed, IfaceShadowed, ManagedEnd, LimitPermits, NoPath, HiddenEnd, LimitLines, LimitRoutes, NoHopAddress, AmbiguousHop, ViewPlace, AtZone, AtRouter, view_at, is_there, is_lower, place_order, order_of}
 use Rattle.policy_model.specs.Headline.{Meaning, permits_in}
-use Rattle.policy_model.proofs.AllWalks.{IsIn, in_pairs, in_numbers}
+use Rattle.policy_model.proofs.AllWalks.{IsIn, in_front, in_back, in_map, from_map, in_pairs, in_numbers}
+use Rattle.list_laws.proofs.Members.{in_either}
 use Rattle.topology.specs.First.{row_of}
 use Rattle.fault_laws.specs.Cases.{IsFirstCase, all_places, views_case, same_case}
-use Rattle.fault_laws.proofs.Orders.{InOrder, PairBefore, from_pairs, order_numbers, order_pairs}
+use Rattle.fault_laws.proofs.Orders.{InOrder, PairBefore, from_pairs, from_numbers, order_numbers, order_append, order_map, order_pairs}
 use Rattle.fault_laws.proofs.Shapes.{lower_here, lower_later}
 use Rattle.fault_laws.proofs.Joins.{joined}
 use Rattle.fault_laws.proofs.Finding.{AreListed, listed_first}
@@ -33,7 +34,7 @@ item_fault e = shadow_of e.1.0 e.1.1 e.0
 -- as far as it is of this row
 abbrev item_of : FaultCase → Item
 item_of (HostShadowed h n at) = (at, (OfHost h, n))
-item_of (IfaceShadowed i n at) = (at, (OfIface i, n))
+item_of (IfaceShadowed i shared n at) = (at, (OfIface i shared, n))
 item_of _ = (AtZone 0, (OfHost 0, 0))
 
 its_item : (f : FaultCase) → f ≡ cond (row_of f == 6) (item_fault (item_of f)) f
@@ -44,11 +45,11 @@ its_item (NatInside net tag) = refl
 its_item LimitViews = refl
 its_item (SamePrefix net other at) = refl
 its_item (HostShadowed host net at) = refl
-its_item (IfaceShadowed iface net at) = refl
+its_item (IfaceShadowed iface shared net at) = refl
 its_item (ManagedEnd service iface) = refl
 its_item LimitPermits = refl
 its_item (NoPath src dst) = refl
-its_item (HiddenEnd permit net zone) = refl
+its_item (HiddenEnd permit src dst net zone) = refl
 its_item LimitLines = refl
 its_item LimitRoutes = refl
 its_item (NoHopAddress router net iface) = refl
@@ -59,13 +60,13 @@ at_shadow f e = its_item f ∙ ap (λ (r : ℕ). cond (r == 6) (item_fault (item
 
 row_of_shadow : (holder : Holder) (n : ℕ) (at : ViewPlace) → row_of (shadow_of holder n at) ≡ 6
 row_of_shadow (OfHost h) n at = refl
-row_of_shadow (OfIface i) n at = refl
+row_of_shadow (OfIface i shared) n at = refl
 
 -- ---- the order of the faults
 
 abbrev holder_order : Holder → List ℕ
 holder_order (OfHost h) = 0 ∷ h ∷ []
-holder_order (OfIface i) = 1 ∷ i ∷ []
+holder_order (OfIface i shared) = 1 ∷ i ∷ cond shared 1 0 ∷ []
 
 -- what is compared, behind the row
 abbrev words : Item → List ℕ
@@ -73,7 +74,7 @@ words e = place_order e.0 ++ (holder_order e.1.0 ++ e.1.1 ∷ [])
 
 order_of_shadow : (permits : List Permit) (holder : Holder) (n : ℕ) (at : ViewPlace) → order_of permits (shadow_of holder n at) ≡ 6 ∷ words (at, (holder, n))
 order_of_shadow permits (OfHost h) n at = refl
-order_of_shadow permits (OfIface i) n at = refl
+order_of_shadow permits (OfIface i shared) n at = refl
 
 abbrev EndBefore : Holder × ℕ → Holder × ℕ → Type 0
 EndBefore = PairBefore (ComesBefore holder_order) (λ (a b : ℕ). a < b)
@@ -94,6 +95,39 @@ lower_items permits x y b =
     subst (λ (o : List ℕ). is_lower o (order_of permits (item_fault y)) ≡ true) (sym (order_of_shadow permits x.1.0 x.1.1 x.0))
     (subst (λ (o : List ℕ). is_lower (6 ∷ words x) o ≡ true) (sym (order_of_shadow permits y.1.0 y.1.1 y.0)) (lower_later 6 6 (words x) (words y) refl (lower_words x y b)))
 
+-- ---- own addresses before shared ones
+
+abbrev sides : List Bool
+sides = false ∷ true ∷ []
+
+abbrev SideBefore : Bool → Bool → Type 0
+SideBefore a b = (a ≡ false) × (b ≡ true)
+
+sides_in_order : InOrder SideBefore sides
+sides_in_order = (λ b i. ⊎_elim (λ e. (refl, e)) (λ g. absurd g) i, (λ b i. absurd i, tt))
+
+in_sides : (b : Bool) → IsIn b sides
+in_sides false = inl refl
+in_sides true = inr (inl refl)
+
+abbrev iface_holder : ℕ × Bool → Holder
+iface_holder e = OfIface e.0 e.1
+
+host_host : (a b : ℕ) → a < b → ComesBefore holder_order (OfHost a) (OfHost b)
+host_host a b h xs ys = lower_later 0 0 (a ∷ xs) (b ∷ ys) refl (lower_here a b xs ys h)
+
+host_iface : (a : ℕ) (e : ℕ × Bool) → ComesBefore holder_order (OfHost a) (iface_holder e)
+host_iface a e xs ys = lower_here 0 1 (a ∷ xs) (e.0 ∷ cond e.1 1 0 ∷ ys) (omega arith)
+
+iface_iface : (x y : ℕ × Bool) → PairBefore (λ (a b : ℕ). a < b) SideBefore x y → ComesBefore holder_order (iface_holder x) (iface_holder y)
+iface_iface x y (inl h) xs ys = lower_later 1 1 (x.0 ∷ cond x.1 1 0 ∷ xs) (y.0 ∷ cond y.1 1 0 ∷ ys) refl (lower_here x.0 y.0 (cond x.1 1 0 ∷ xs) (cond y.1 1 0 ∷ ys) h)
+iface_iface x y (inr h) xs ys =
+    let mark : Bool → ℕ = λ b. cond b 1 0 in
+    let a : ◌≡◌ {A = ℕ} (mark x.1) 0 = ap mark h.1.0 in
+    let b : ◌≡◌ {A = ℕ} (mark y.1) 1 = ap mark h.1.1 in
+    lower_later 1 1 (x.0 ∷ cond x.1 1 0 ∷ xs) (y.0 ∷ cond y.1 1 0 ∷ ys) refl
+    (lower_later x.0 y.0 (cond x.1 1 0 ∷ xs) (cond y.1 1 0 ∷ ys) h.0 (lower_here (cond x.1 1 0) (cond y.1 1 0) xs ys (omega (arith, a, b))))
+
 -- ---- what is listed
 
 module _ (m : Meaning) where
@@ -109,12 +143,39 @@ module _ (m : Meaning) where
       each_kind ViewPlace AtZone AtRouter (zone_count m.site) (length p.routers) (λ (at : ViewPlace). is_there m.site at ≡ true)
       (λ z h. lt-ltb z (zone_count m.site) h) (λ r h. lt-ltb r (length p.routers) h)
 
+  abbrev iface_items : List (ℕ × Bool)
+  iface_items = pairs_of (all_ifaces p) sides
+
+  abbrev hosts : List Holder
+  hosts = map OfHost (all_hosts p)
+
+  abbrev ifaces : List Holder
+  ifaces = map iface_holder iface_items
+
   in_holders : (holder : Holder) → IsHolderThere p holder → IsIn holder (all_holders p)
-  in_holders (OfHost k) h = low_in Holder OfHost OfIface (length p.hosts) (length p.ifaces) k h
-  in_holders (OfIface i) h = high_in Holder OfHost OfIface (length p.hosts) (length p.ifaces) i h
+  in_holders (OfHost k) h = in_front (OfHost k) hosts ifaces (in_map OfHost k (all_hosts p) (in_numbers (length p.hosts) k h))
+  in_holders (OfIface i shared) h =
+      in_back (OfIface i shared) hosts ifaces
+      (in_map iface_holder (i, shared) iface_items (in_pairs i shared (all_ifaces p) sides (in_numbers (length p.ifaces) i h) (in_sides shared)))
 
   from_holders : (holder : Holder) → IsIn holder (all_holders p) → IsHolderThere p holder
-  from_holders = each_kind Holder OfHost OfIface (length p.hosts) (length p.ifaces) (λ (holder : Holder). IsHolderThere p holder) (λ k h. h) (λ i h. h)
+  from_holders holder h =
+      ⊎_elim (λ i. let w = from_map OfHost holder (all_hosts p) i in subst (IsHolderThere p) (sym w.2) (from_numbers (length p.hosts) w.0 w.1))
+      (λ i. let w = from_map iface_holder holder iface_items i in
+      let v = from_pairs (all_ifaces p) sides w.0 w.1 in
+      subst (IsHolderThere p) (sym w.2) (from_numbers (length p.ifaces) w.0.0 v.0))
+      (in_either holder hosts ifaces h)
+
+  holders_in_order : InOrder (ComesBefore holder_order) (all_holders p)
+  holders_in_order =
+      order_append (ComesBefore holder_order) hosts ifaces
+      (order_map (λ (a b : ℕ). a < b) (ComesBefore holder_order) OfHost host_host (all_hosts p) (order_numbers (length p.hosts)))
+      (order_map (PairBefore (λ (a b : ℕ). a < b) SideBefore) (ComesBefore holder_order) iface_holder iface_iface iface_items
+      (order_pairs (λ (a b : ℕ). a < b) SideBefore (all_ifaces p) sides (order_numbers (length p.ifaces)) sides_in_order))
+      (λ x y i j.
+      let v = from_map OfHost x (all_hosts p) i in
+      let w = from_map iface_holder y iface_items j in
+      subst (λ (z : Holder). ComesBefore holder_order z y) (sym v.2) (subst (λ (z : Holder). ComesBefore holder_order (OfHost v.0) z) (sym w.2) (host_iface v.0 w.0)))
 
   abbrev ends : List (Holder × ℕ)
   ends = pairs_of (all_holders p) (all_nets p)
@@ -127,7 +188,7 @@ module _ (m : Meaning) where
       order_pairs (ComesBefore place_order) EndBefore (all_places m.site) ends
       (kinds_in_order ViewPlace AtZone AtRouter (zone_count m.site) (length p.routers) place_order (λ z. refl) (λ r. refl))
       (order_pairs (ComesBefore holder_order) (λ (a b : ℕ). a < b) (all_holders p) (all_nets p)
-      (kinds_in_order Holder OfHost OfIface (length p.hosts) (length p.ifaces) holder_order (λ h. refl) (λ i. refl)) (order_numbers (length p.nets)))
+      holders_in_order (order_numbers (length p.nets)))
 
   abbrev IsTaken : Item → Bool
   IsTaken e = is_holder_shadowed p (view_at m.views e.0) e.1.0 e.1.1

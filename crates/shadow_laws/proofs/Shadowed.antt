@@ -5,11 +5,11 @@ use Rattle.std.specs.Option.{option_map_or}
 use Rattle.std.specs.List.{list_any, range_with_len}
 use Rattle.std.proofs.lemmas.Bool.{and_parts, and_from, eqb-true, eq-eqb, ne_eqb, leb-true, le-leb, not-true, not_from_false, both_ways, false≢true, cases_eq}
 use Rattle.spoc_base.specs.Address.{Interval, within}
-use Rattle.policy_model.specs.Policy.{Policy, host_of, iface_of, net_at}
+use Rattle.policy_model.specs.Policy.{Policy, host_of, net_at}
 use Rattle.policy_model.specs.Places.{translated_address, is_number, place}
 use Rattle.policy_model.specs.Permits.{one_address}
 use Rattle.policy_model.specs.Faults.{IsShadowed}
-use Rattle.policy_model.specs.FirstFault.{HasFault, IsIfaceShadowed, ViewPlace, view_at, is_there}
+use Rattle.policy_model.specs.FirstFault.{HasFault, IsIfaceShadowed, ViewPlace, view_at, is_there, address_at}
 use Rattle.policy_model.specs.Headline.{Meaning}
 use Rattle.policy_model.proofs.AllWalks.{IsIn}
 use Rattle.list_laws.proofs.Members.{some_in, some_of}
@@ -75,7 +75,7 @@ module _ (p : Policy) (view : List ℕ) where
 
   abbrev pub IsHolderShadowed : Holder → ℕ → Type 0
   IsHolderShadowed (OfHost h) m = IsShadowed p view (host_of p h).net (host_of p h).range m
-  IsHolderShadowed (OfIface i) m = IsIfaceShadowed p view i m
+  IsHolderShadowed (OfIface i shared) m = IsIfaceShadowed p view i shared m
 
   abbrev by_address : ℕ → ℕ → Option ℕ → Bool
   by_address i m o = option_map_or (λ range. is_shadowed p view (net_at p i) range m) (option_map one_address o) false
@@ -86,23 +86,23 @@ module _ (p : Policy) (view : List ℕ) where
 
   pub to_holder : (holder : Holder) (m : ℕ) → is_holder_shadowed p view holder m ≡ true → IsHolderShadowed holder m
   to_holder (OfHost h) m t = to_shadowed (host_of p h).net (host_of p h).range m t
-  to_holder (OfIface i) m t =
-      let w = some_address i m (iface_of p i).addr t in
+  to_holder (OfIface i shared) m t =
+      let w = some_address i m (address_at p i shared) t in
       record { address = w.0; its = w.1; shadowed = to_shadowed (net_at p i) (one_address w.0) m w.2 }
 
   pub from_holder : (holder : Holder) (m : ℕ) → IsHolderShadowed holder m → is_holder_shadowed p view holder m ≡ true
   from_holder (OfHost h) m s = from_shadowed (host_of p h).net (host_of p h).range m s
-  from_holder (OfIface i) m s = ap (by_address i m) s.its ∙ from_shadowed (net_at p i) (one_address s.address) m s.shadowed
+  from_holder (OfIface i shared) m s = ap (by_address i m) s.its ∙ from_shadowed (net_at p i) (one_address s.address) m s.shadowed
 
   pub holder_below : (holder : Holder) (m : ℕ) → IsHolderShadowed holder m → m < length p.nets
   holder_below (OfHost h) m s = shadow_below (host_of p h).net (host_of p h).range m s
-  holder_below (OfIface i) m s = shadow_below (net_at p i) (one_address s.address) m s.shadowed
+  holder_below (OfIface i shared) m s = shadow_below (net_at p i) (one_address s.address) m s.shadowed
 
 -- ---- as a fault
 
 abbrev pub IsHolderThere : Policy → Holder → Type 0
 IsHolderThere p (OfHost h) = h < length p.hosts
-IsHolderThere p (OfIface i) = i < length p.ifaces
+IsHolderThere p (OfIface i shared) = i < length p.ifaces
 
 -- what the fault says
 abbrev pub Says : Meaning → ViewPlace → Holder → ℕ → Type 0
@@ -110,8 +110,8 @@ Says m at holder n = IsHolderThere m.site.policy holder × (is_there m.site at �
 
 pub has_shadow : (m : Meaning) (at : ViewPlace) (holder : Holder) (n : ℕ) → Says m at holder n → HasFault m (shadow_of holder n at)
 has_shadow m at (OfHost h) n s = s
-has_shadow m at (OfIface i) n s = s
+has_shadow m at (OfIface i shared) n s = s
 
 pub shadow_says : (m : Meaning) (at : ViewPlace) (holder : Holder) (n : ℕ) → HasFault m (shadow_of holder n at) → Says m at holder n
 shadow_says m at (OfHost h) n f = f
-shadow_says m at (OfIface i) n f = f
+shadow_says m at (OfIface i shared) n f = f

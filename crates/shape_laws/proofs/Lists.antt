@@ -7,11 +7,11 @@ use Rattle.policy_model.specs.Tags.{ifaces_of}
 use Rattle.policy_model.specs.Filters.{Line, passes}
 use Rattle.policy_model.specs.Blocks.{list_at}
 use Rattle.policy_model.specs.Passing.{Config, no_config, config_of, list_in}
-use Rattle.policy_model.specs.Headline.{Meaning, IsMeaning, permits_in, DevicesPass, WalksPass}
+use Rattle.policy_model.specs.Headline.{Meaning, IsMeaning, permits_in, DevicesPass, ListsPass, WalksPass}
 use Rattle.policy_model.proofs.AllWalks.{managed_is_there}
 use Rattle.policy_laws.specs.Secured.{HaveLists}
 use Rattle.policy_laws.specs.Shaped.{IsShaped, HasDistinctPrefixes}
-use Rattle.policy_laws.proofs.Devices.{devices_pass, walks_pass}
+use Rattle.policy_laws.proofs.Devices.{devices_pass, walks_pass, lists_pass}
 use Rattle.policy_laws.proofs.Shapes.{secured}
 use Rattle.config_laws.proofs.InOrder.{by_count, by_lower}
 
@@ -21,16 +21,16 @@ abbrev HaveOwnLists : Policy → Meaning → List Config → Type 0
 HaveOwnLists p m configs = (i : ℕ) → i < length p.ifaces → is_managed p (router_at p i) ≡ true → list_in p configs i ≡ list_at m.site m.views (permits_in m) i
 
 own_lists : (m : Meaning) (configs : List Config) → HasDistinctPrefixes m.site m.views → IsShaped m.site.policy → HaveOwnLists m.site.policy m configs →
-    WalksPass m configs × DevicesPass m configs
+    WalksPass m configs × DevicesPass m configs × ListsPass m configs
 own_lists m configs distinct shaped own =
     let safe = secured m.site m.areas shaped m.views distinct in
     let lists : HaveLists m.site m.views (permits_in m) configs = λ i below managed h t. ap (λ (lines : List Line). passes lines h) (sym (own i below managed)) in
-    (walks_pass m configs safe lists, devices_pass m configs safe lists)
+    (walks_pass m configs safe lists, devices_pass m configs safe lists, lists_pass m configs safe lists)
 
 pub own_lists_pass : (p : Policy) (m : Meaning) (configs : List Config) → IsMeaning p m → IsShaped p → HasDistinctPrefixes m.site m.views → HaveOwnLists p m configs →
-    WalksPass m configs × DevicesPass m configs
+    WalksPass m configs × DevicesPass m configs × ListsPass m configs
 own_lists_pass p m configs its shaped distinct own =
-    subst (λ (q : Policy). IsShaped q → HaveOwnLists q m configs → WalksPass m configs × DevicesPass m configs) its.policy (own_lists m configs distinct) shaped own
+    subst (λ (q : Policy). IsShaped q → HaveOwnLists q m configs → WalksPass m configs × DevicesPass m configs × ListsPass m configs) its.policy (own_lists m configs distinct) shaped own
 
 -- ---- where they stand
 
@@ -60,11 +60,11 @@ abbrev HaveOwnListsByRouter : Policy → Meaning → (ℕ → Config) → Type 0
 HaveOwnListsByRouter p m config = (r : ℕ) → is_managed p r ≡ true → (config r).lists ≡ map (list_at m.site m.views (permits_in m)) (ifaces_of p r)
 
 routers_pass : (m : Meaning) (config : ℕ → Config) → HasDistinctPrefixes m.site m.views → IsShaped m.site.policy → HaveOwnListsByRouter m.site.policy m config →
-    WalksPass m (map config (managed_routers m.site.policy)) × DevicesPass m (map config (managed_routers m.site.policy))
+    WalksPass m (map config (managed_routers m.site.policy)) × DevicesPass m (map config (managed_routers m.site.policy)) × ListsPass m (map config (managed_routers m.site.policy))
 routers_pass m config distinct shaped own = own_lists m (map config (managed_routers m.site.policy)) distinct shaped (list_there m config own)
 
 pub lists_by_router_pass : (p : Policy) (m : Meaning) (config : ℕ → Config) → IsMeaning p m → IsShaped p → HasDistinctPrefixes m.site m.views → HaveOwnListsByRouter p m config →
-    WalksPass m (map config (managed_routers p)) × DevicesPass m (map config (managed_routers p))
+    WalksPass m (map config (managed_routers p)) × DevicesPass m (map config (managed_routers p)) × ListsPass m (map config (managed_routers p))
 lists_by_router_pass p m config its shaped distinct own =
-    subst (λ (q : Policy). IsShaped q → HaveOwnListsByRouter q m config → WalksPass m (map config (managed_routers q)) × DevicesPass m (map config (managed_routers q)))
+    subst (λ (q : Policy). IsShaped q → HaveOwnListsByRouter q m config → WalksPass m (map config (managed_routers q)) × DevicesPass m (map config (managed_routers q)) × ListsPass m (map config (managed_routers q)))
     its.policy (routers_pass m config distinct) shaped own

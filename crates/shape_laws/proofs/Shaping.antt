@@ -1,12 +1,13 @@
 -- The policy that declarations without a fault say is shaped and wired.
 use Rattle.std.proofs.Common.{◌≡◌, ℕ, zero, suc, ◌<◌, ◌≤◌, Bool, true, false, ◌&&◌, List, [], ◌∷◌, length, refl, sym, ap, ◌∙◌, ⊎_elim, arith}
 use Rattle.std.specs.Prelude.{Option, Some, None, IfSome, ◌+◌, ◌-◌, nat_le, slice_index_or}
+use Rattle.std.specs.Option.{option_or}
 use Rattle.std.specs.List.{list_all}
 use Rattle.std.proofs.lemmas.List.{get_or_past}
 use Rattle.std.proofs.lemmas.Option.{none-some}
-use Rattle.std.proofs.lemmas.Bool.{and_parts, and_from, leb-true, eqb-true, cases_lt}
+use Rattle.std.proofs.lemmas.Bool.{and_parts, and_from, leb-true, eqb-true, false≢true, cases_lt}
 use Rattle.spoc_base.specs.Address.{Cidr, size_of, prefix_holds}
-use Rattle.policy_model.specs.Policy.{Policy, ObjectExpr, NoObjects, OneNet, OneHost, OneIface, OfGroup, OfAggregate, OfArea, OfUser, NetsOf, HostsOf, ZonesOf, Joined, Common, Without, Group, Rule, Service, Iface, no_net, no_host, no_iface, no_group, net_of, host_of, iface_of, net_at}
+use Rattle.policy_model.specs.Policy.{Policy, ObjectExpr, NoObjects, OneNet, OneHost, OneIface, OfGroup, OfAggregate, OfArea, OfUser, NetsOf, HostsOf, ZonesOf, Joined, Common, Without, Group, Rule, Service, Iface, no_net, no_host, no_iface, no_group, net_of, host_of, iface_of, gateway_at, net_at, router_at, is_managed}
 use Rattle.list_laws.proofs.Members.{each_in}
 use Rattle.list_laws.proofs.Tables.{from_flat_map}
 use Rattle.policy_laws.specs.Secured.{IsPrefix, IsNet, IsEnd, no_nat}
@@ -89,8 +90,20 @@ module _ (p : Policy) where
   ifaces_inside sound i a e =
       ⊎_elim (λ (below : i < length p.ifaces). sound.well_formed.addresses i a below e) (λ (past : length p.ifaces ≤ i). absurd (none_past i a past e)) (cases_lt i (length p.ifaces))
 
+  -- an interface of an unmanaged router shares no address, so that packets are sent to its own
+  own_address : IsSound p → (i a : ℕ) → i < length p.ifaces → is_managed p (router_at p i) ≡ false → gateway_at p i ≡ Some a → (iface_of p i).addr ≡ Some a
+  own_address sound i a below unmanaged at = go (iface_of p i).shared refl
+    where
+      go : (o : Option ℕ) → (iface_of p i).shared ≡ o → (iface_of p i).addr ≡ Some a
+      go None is = sym (ap (λ (o : Option ℕ). option_or o (iface_of p i).addr) is) ∙ at
+      go (Some b) is = absurd (false≢true (sym unmanaged ∙ (sound.well_formed.shared i b below is).0))
+
   wired : IsSound p → IsWired p
-  wired sound = record { placed = sound.numbered.placed; once = sound.named.ifaces }
+  wired sound = record {
+    placed = sound.numbered.placed;
+    once = sound.named.ifaces;
+    own = λ i j a hi hj mi mj at gi gj. sound.well_formed.apart i j a hi hj at (own_address sound i a hi mi gi) (own_address sound j a hj mj gj);
+  }
 
 -- ---- networks and hosts
 

@@ -57,7 +57,7 @@ distinct m plain apart = record {
 
 -- ---- no tag is bound
 
-none_has : (xs : List ℕ) → ((x : ℕ) → has xs x ≡ true → ⊥) → xs ≡ []
+pub none_has : (xs : List ℕ) → ((x : ℕ) → has xs x ≡ true → ⊥) → xs ≡ []
 none_has [] h = refl
 none_has (x ∷ xs) h = absurd (h x (or_left (x == x) (has xs x) (eq-eqb x x refl)))
 
@@ -65,7 +65,7 @@ module _ (s : Site) (v : Views) (views : AreViews s v) (unbound : IsUnbound s.po
   none_active : (tag z : ℕ) → IsActive s tag z → ⊥
   none_active tag z w = false≢true (sym (ap (λ (tags : List ℕ). has tags tag) (unbound w.iface w.there)) ∙ w.bound)
 
-  view_empty : (z : ℕ) → zone_view v z ≡ []
+  pub view_empty : (z : ℕ) → zone_view v z ≡ []
   view_empty z =
       ⊎_elim (λ (below : z < zone_count s). none_has (zone_view v z) (λ tag h. none_active tag z ((views.active z tag below).0 h)))
       (λ (past : zone_count s ≤ z). get_or_past v.zones z [] (omega (arith, past, views.each))) (cases_lt z (zone_count s))

@@ -6,8 +6,11 @@ ghost use Rattle.std.specs.Prelude.{◌≡◌, ℕ, ◌<◌, List, length, map, 
 ghost use Rattle.policy_model.specs.Policy.{Policy, router_at, is_managed, managed_routers};
 ghost use Rattle.policy_model.specs.Tags.{ifaces_of};
 ghost use Rattle.policy_model.specs.Blocks.{list_at};
+ghost use Rattle.policy_model.specs.Permits.{Packet};
+ghost use Rattle.policy_model.specs.Packets.{is_packet, is_unambiguous};
+ghost use Rattle.policy_model.specs.PlainRules.{HasPlainRules};
 ghost use Rattle.policy_model.specs.Passing.{Config, list_in};
-ghost use Rattle.policy_model.specs.Headline.{Meaning, IsMeaning, permits_in, DevicesPass, WalksPass};
+ghost use Rattle.policy_model.specs.Headline.{Meaning, IsMeaning, permits_in, DevicesPass, ListsPass, WalksPass};
 ghost use Rattle.policy_laws.specs.Routed.{IsWired};
 ghost use Rattle.policy_laws.specs.Shaped.{IsShaped, HasDistinctPrefixes};
 ghost use Rattle.topology.specs.Sound.{IsSound};
@@ -24,6 +27,11 @@ pub fn policies_said_are_shaped()
         IsShaped (policy_said decls) × IsWired (policy_said decls) }
 {}
 
+/// The boxes of the rules that such declarations say are plain: their numbers are in their ranges, and none asks for established segments alone.
+pub fn rules_said_are_plain()
+    ensures { (decls : List DeclText) → fault_of decls ≡ None → HasPlainRules (policy_said decls) }
+{}
+
 /// Where no network is translated and none is part of another, no two have one prefix in any view.
 pub fn unlike_prefixes_are_distinct()
     ensures { (m : Meaning) → IsUntranslated m.site.policy → IsApart m.site.policy → HasDistinctPrefixes m.site m.views }
@@ -34,12 +42,17 @@ pub fn unbound_prefixes_are_distinct()
     ensures { (p : Policy) (m : Meaning) → IsMeaning p m → IsUnbound p → IsApart p → HasDistinctPrefixes m.site m.views }
 {}
 
+/// And each packet is unambiguous there, on every allowed walk.
+pub fn packets_without_bound_tags_are_unambiguous()
+    ensures { (p : Policy) (m : Meaning) → IsMeaning p m → IsUnbound p → (x : Packet) → IsTrue (is_packet m.site m.views x) → IsTrue (is_unambiguous m.site m.views x) }
+{}
+
 /// Configs whose lists at managed interfaces are the policy's own pass an unambiguous packet of an allowed walk exactly if it is permitted or a reply: all
-/// devices of the walk together, and each by itself.
+/// devices of the walk together, and each by itself. The list by which it enters a device passes a reply only where the router has no state.
 pub fn lists_like_the_own_ones_pass()
     ensures { (p : Policy) (m : Meaning) (configs : List Config) → IsMeaning p m → IsShaped p → HasDistinctPrefixes m.site m.views →
         ((i : ℕ) → i < length p.ifaces → IsTrue (is_managed p (router_at p i)) → list_in p configs i ≡ list_at m.site m.views (permits_in m) i) →
-        WalksPass m configs × DevicesPass m configs }
+        WalksPass m configs × DevicesPass m configs × ListsPass m configs }
 {}
 
 /// Where each managed router's config has its interfaces' own lists in order, the list at a managed interface is its own.
@@ -54,5 +67,5 @@ pub fn lists_by_router_are_in_order()
 pub fn lists_by_router_pass()
     ensures { (p : Policy) (m : Meaning) (config : ℕ → Config) → IsMeaning p m → IsShaped p → HasDistinctPrefixes m.site m.views →
         ((r : ℕ) → IsTrue (is_managed p r) → (config r).lists ≡ map (list_at m.site m.views (permits_in m)) (ifaces_of p r)) →
-        WalksPass m (map config (managed_routers p)) × DevicesPass m (map config (managed_routers p)) }
+        WalksPass m (map config (managed_routers p)) × DevicesPass m (map config (managed_routers p)) × ListsPass m (map config (managed_routers p)) }
 {}

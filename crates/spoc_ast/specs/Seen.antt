@@ -1,6 +1,6 @@
 -- The trees in memory, as what they say.
 use Rattle.std.specs.Prelude.{Bool, true, false, List, [], ◌∷◌, map, option_map}
-use Rattle.spoc_ast.specs.Written.{Lexeme, PortText, SetText, NoParts, NetworkNamed, HostNamed, PortNamed, GroupNamed, AggregateNamed, AreaNamed, UserNamed, NetworksIn, HostsIn, ZonesIn, Joining, Keeping, Leaving, IdleText, HostPartText, HostIp, HostRange, HostIdle, NatPartText, NatIp, NetPartText, NetIp, NetHost, NetNat, NetIdle, IfPartText, IfIp, IfHardware, IfBindNat, IfIdle, RoutPartText, RoutManaged, RoutModel, RoutRouting, RoutIface, RoutIdle, AreaPartText, AreaAnchor, AreaBorder, AreaIdle, AnyPartText, AnyLink, AnyIp, AnyIdle, SimpleText, SimpleIp, SimpleTcp, SimpleUdp, SimpleIcmp, SimpleProto, PrtText, PrtSimple, PrtProtocol, PrtGroup, RuleText, DeclText, NetworkDecl, RouterDecl, GroupDecl, AreaDecl, AggregateDecl, ProtocolDecl, ProtocolGroupDecl, RestrictionDecl, ServiceDecl}
+use Rattle.spoc_ast.specs.Written.{Lexeme, PortText, SetText, NoParts, NetworkNamed, HostNamed, PortNamed, GroupNamed, AggregateNamed, AreaNamed, UserNamed, NetworksIn, HostsIn, ZonesIn, Joining, Keeping, Leaving, IdleText, HostPartText, HostIp, HostRange, HostIdle, NatPartText, NatIp, NatHidden, NetPartText, NetIp, NetHost, NetNat, NetIdle, VirtPartText, VirtIp, VirtKind, VirtId, IfPartText, IfIp, IfHardware, IfBindNat, IfVirtual, IfIdle, RoutPartText, RoutManaged, RoutModel, RoutRouting, RoutIface, RoutIdle, AreaPartText, AreaAnchor, AreaBorder, AreaIdle, AnyPartText, AnyLink, AnyIp, AnyIdle, SimpleText, SimpleIp, SimpleTcp, SimpleUdp, SimpleIcmp, SimpleProto, PrtText, PrtSimple, PrtProtocol, PrtGroup, RuleText, DeclText, NetworkDecl, RouterDecl, GroupDecl, AreaDecl, AggregateDecl, ProtocolDecl, ProtocolGroupDecl, RestrictionDecl, ServiceDecl}
 use Rattle.spoc_ast.specs.declared.word.Word.{Word}
 use Rattle.spoc_ast.specs.declared.word.PortName.{PortName}
 use Rattle.spoc_ast.specs.declared.set.SetTree.{SetTree, SetTree', Row_of-InterTree, end_of-InterTree, more_of-InterTree}
@@ -15,6 +15,8 @@ use Rattle.spoc_ast.specs.declared.decl.NatPart.{NatPart}
 use Rattle.spoc_ast.specs.declared.decl.NatPart.TheVariants as nat_part
 use Rattle.spoc_ast.specs.declared.decl.NetPart.{NetPart}
 use Rattle.spoc_ast.specs.declared.decl.NetPart.TheVariants as net_part
+use Rattle.spoc_ast.specs.declared.decl.VirtPart.{VirtPart}
+use Rattle.spoc_ast.specs.declared.decl.VirtPart.TheVariants as virt_part
 use Rattle.spoc_ast.specs.declared.decl.IfPart.{IfPart}
 use Rattle.spoc_ast.specs.declared.decl.IfPart.TheVariants as if_part
 use Rattle.spoc_ast.specs.declared.decl.RoutPart.{RoutPart}
@@ -82,6 +84,7 @@ host_part_seen (host_part.Idle idle) = HostIdle (idle_seen idle)
 
 abbrev pub nat_part_seen : NatPart → NatPartText
 nat_part_seen (nat_part.Ip w) = NatIp (word_seen w)
+nat_part_seen nat_part.Hidden = NatHidden
 
 abbrev pub net_part_seen : NetPart → NetPartText
 net_part_seen (net_part.Ip w) = NetIp (word_seen w)
@@ -89,10 +92,16 @@ net_part_seen (net_part.Host name parts) = NetHost (word_seen name) (map host_pa
 net_part_seen (net_part.Nat name parts) = NetNat (word_seen name) (map nat_part_seen parts.now)
 net_part_seen (net_part.Idle idle) = NetIdle (idle_seen idle)
 
+abbrev pub virt_part_seen : VirtPart → VirtPartText
+virt_part_seen (virt_part.Ip w) = VirtIp (word_seen w)
+virt_part_seen (virt_part.Kind w) = VirtKind (word_seen w)
+virt_part_seen (virt_part.Id w) = VirtId (word_seen w)
+
 abbrev pub if_part_seen : IfPart → IfPartText
 if_part_seen (if_part.Ip w) = IfIp (word_seen w)
 if_part_seen (if_part.Hardware w) = IfHardware (word_seen w)
 if_part_seen (if_part.BindNat tags) = IfBindNat (map word_seen tags.now)
+if_part_seen (if_part.Virtual parts) = IfVirtual (map virt_part_seen parts.now)
 if_part_seen (if_part.Idle idle) = IfIdle (idle_seen idle)
 
 abbrev pub rout_part_seen : RoutPart → RoutPartText
@@ -125,7 +134,7 @@ prt_seen (prt.Protocol w) = PrtProtocol (word_seen w)
 prt_seen (prt.Group w) = PrtGroup (word_seen w)
 
 abbrev pub rule_seen : RuleTree → RuleText
-rule_seen rule = record { src = set_seen rule.src; dst = set_seen rule.dst; prts = map prt_seen rule.prts.now }
+rule_seen rule = record { deny = rule.deny; src = set_seen rule.src; dst = set_seen rule.dst; prts = map prt_seen rule.prts.now }
 
 abbrev pub decl_seen : Decl → DeclText
 decl_seen (decl.Network name desc parts) = NetworkDecl (word_seen name) (option_map word_seen desc) (map net_part_seen parts.now)

@@ -1,5 +1,5 @@
 -- What a policy file says, as plain data: a twin of each type of tree, with lists for slices.
-use Rattle.std.specs.Prelude.{ℕ, List, Option}
+use Rattle.std.specs.Prelude.{ℕ, Bool, List, Option}
 use Rattle.spoc_base.specs.declared.place.Span.{Span}
 
 -- a word: where it stands, and its bytes
@@ -41,6 +41,7 @@ pub data HostPartText : Type 0 where
 
 pub data NatPartText : Type 0 where
   NatIp : (prefix : Lexeme) → NatPartText
+  NatHidden : NatPartText
 
 pub data NetPartText : Type 0 where
   NetIp : (prefix : Lexeme) → NetPartText
@@ -48,10 +49,17 @@ pub data NetPartText : Type 0 where
   NetNat : (name : Lexeme) (parts : List NatPartText) → NetPartText
   NetIdle : (idle : IdleText) → NetPartText
 
+-- a part of a shared address
+pub data VirtPartText : Type 0 where
+  VirtIp : (address : Lexeme) → VirtPartText
+  VirtKind : (kind : Lexeme) → VirtPartText
+  VirtId : (number : Lexeme) → VirtPartText
+
 pub data IfPartText : Type 0 where
   IfIp : (address : Lexeme) → IfPartText
   IfHardware : (hardware : Lexeme) → IfPartText
   IfBindNat : (tags : List Lexeme) → IfPartText
+  IfVirtual : (parts : List VirtPartText) → IfPartText
   IfIdle : (idle : IdleText) → IfPartText
 
 pub data RoutPartText : Type 0 where
@@ -84,7 +92,9 @@ pub data PrtText : Type 0 where
   PrtProtocol : (name : Lexeme) → PrtText
   PrtGroup : (name : Lexeme) → PrtText
 
+-- a rule, which denies or permits
 pub record RuleText : Type 0 where
+  pub deny : Bool
   pub src : SetText
   pub dst : SetText
   pub prts : List PrtText

@@ -85,10 +85,12 @@ pub enum HostPart<'a> {
     Idle(Idle<'a>),
 }
 
-/// A part of a translation: the prefix that the network has where the tag is in force.
+/// A part of a translation: the prefix that the network has where the tag is in force, or that it is
+/// hidden there.
 #[derive(Clone, Copy)]
 pub enum NatPart<'a> {
     Ip(Word<'a>),
+    Hidden,
 }
 
 /// A part of a router's declaration.
@@ -113,7 +115,18 @@ pub enum IfPart<'a> {
     Hardware(Word<'a>),
     /// The names of the tags that are in force behind the interface.
     BindNat(&'a [Word<'a>]),
+    /// The address that the interface shares with others of its network.
+    Virtual(&'a [VirtPart<'a>]),
     Idle(Idle<'a>),
+}
+
+/// A part of a shared address: the address itself, and the kind and the number of the protocol by
+/// which routers share it. Kind and number have no effect.
+#[derive(Clone, Copy)]
+pub enum VirtPart<'a> {
+    Ip(Word<'a>),
+    Kind(Word<'a>),
+    Id(Word<'a>),
 }
 
 /// A part of an area's declaration.
@@ -155,9 +168,11 @@ pub enum Prt<'a> {
     Group(Word<'a>),
 }
 
-/// A rule of a service: what its sources may send to its destinations.
+/// A rule of a service: what its sources may send to its destinations, or may not where `deny` is
+/// true.
 #[derive(Clone, Copy)]
 pub struct RuleTree<'a> {
+    pub deny: bool,
     pub src: SetTree<'a>,
     pub dst: SetTree<'a>,
     pub prts: &'a [Prt<'a>],

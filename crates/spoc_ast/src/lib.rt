@@ -12,7 +12,7 @@ pub mod word;
 
 pub use decl::{
     AnyPart, AreaPart, Decl, File, HostPart, Idle, IfPart, NatPart, NetPart, Prt, RoutPart,
-    RuleTree, Simple,
+    RuleTree, Simple, VirtPart,
 };
 pub use laws::sets_are_seen_by_their_parts;
 pub use set::{FurtherTree, InterTree, SetTree, TermTree};

@@ -137,6 +137,15 @@ pub enum Fault {
         src: Named,
         dst: Named,
     },
+    /// A rule permits packets between these two networks, their zones differ, and `net`, one of the
+    /// two, is hidden in the zone, which an allowed walk between theirs passes. Permits are compared
+    /// first, then zones; the source goes before the destination.
+    HiddenEnd {
+        src: Named,
+        dst: Named,
+        net: Named,
+        zone: Named,
+    },
     /// All access lists together have more than 4,000,000 lines before they are optimised.
     LimitLines,
     /// There are more than 4,000,000 pairs of a router that gets static routes and a network to which

@@ -35,6 +35,7 @@ impl<'p, R> HostFolder<'p, R> {
     /// The folder under this path, of which no call has failed so far. The system isn't asked for it
     /// here: where it doesn't exist, or the path is empty, each call fails.
     pub fn open(rt: R, path: &'p str) -> HostFolder<'p, R>
+        ensures path { result.path.now ≡ path.now }
         ensures reads { result.read_faults ≡ 0 }
         ensures writes { result.write_faults ≡ 0 }
         ensures larges { result.larges ≡ 0 }
@@ -76,6 +77,8 @@ impl<'p, R: Files + AllocGlobal + Clone + Drop> Folder for HostFolder<'p, R> {
 
     ghost larges = { λ f. f.larges };
 
+    ghost put_faults = { λ f. f.write_faults };
+
     /// The paths of the files. Links, and what is neither file nor folder, are left out.
     ///
     /// It fails, and counts it, where the opened folder doesn't exist, where a folder can't be read,
@@ -85,11 +88,12 @@ impl<'p, R: Files + AllocGlobal + Clone + Drop> Folder for HostFolder<'p, R> {
         ensures paths { IfOk result (λ paths. ForSome None (λ fs. ListsPaths fs paths.items)) }
         ensures cause { HasReadCause self.old.read_faults self.new.read_faults result }
         ensures larges { self.new.larges ≡ self.old.larges }
+        ensures put_faults { self.new.write_faults ≡ self.old.write_faults }
         ensures no_size { IsErrOf result IoFail.TooLarge → ⊥ }
 
         // It counts a failure, and nothing else.
         ensures count { self.new.read_faults ≡ after_failure self.old.read_faults result }
-        ensures writes { self.new.write_faults ≡ self.old.write_faults }
+        ensures path { self.new.path ≡ self.old.path }
 
         // It never lists more paths than there may be entries.
         ensures most { IfOk result (λ paths. length paths.items ≤ most_entries) }
@@ -110,11 +114,12 @@ impl<'p, R: Files + AllocGlobal + Clone + Drop> Folder for HostFolder<'p, R> {
         ensures large { IsErrOf result IoFail.TooLarge → ForSome None (λ fs. IfSome (bytes_at fs path.now) (λ bytes. limit + 1 ≤ length bytes)) }
         ensures cause { HasReadCause self.old.read_faults self.new.read_faults result }
         ensures larges { CountsLarge self.old.larges self.new.larges result }
+        ensures put_faults { self.new.write_faults ≡ self.old.write_faults }
 
         // It counts a failure or a file that is too large, and nothing else.
         ensures count { self.new.read_faults ≡ after_failure self.old.read_faults result }
         ensures large_count { self.new.larges ≡ after_large self.old.larges result }
-        ensures writes { self.new.write_faults ≡ self.old.write_faults }
+        ensures path { self.new.path ≡ self.old.path }
 
         // What it reads lies in the folder: no part of the path is empty, `.` or `..`.
         ensures inner { OnOk result (leads_out path.now ≡ false) }
@@ -127,8 +132,6 @@ impl<'p, R: Files + AllocGlobal + Clone + Drop> Folder for HostFolder<'p, R> {
 }
 
 impl<'p, R: Files + AllocGlobal + Clone + Drop> Target for HostFolder<'p, R> {
-    ghost faults = { λ f. f.write_faults };
-
     /// Puts a file, in the place of a plain file of that name, and never through a link.
     ///
     /// It fails, and counts it, where something else than a plain file stands under the name, where
@@ -137,11 +140,12 @@ impl<'p, R: Files + AllocGlobal + Clone + Drop> Target for HostFolder<'p, R> {
         ensures ok { OnOk result (BothTold (Puts name.now bytes.now) None None) }
         ensures err { OnErr result (BothTold (PutsPart name.now bytes.now) None None) }
         ensures cause { HasCause self.old.write_faults self.new.write_faults result }
+        ensures faults { self.new.read_faults ≡ self.old.read_faults }
         ensures larges { self.new.larges ≡ self.old.larges }
 
         // It counts a failure, and nothing else.
         ensures count { self.new.write_faults ≡ after_error self.old.write_faults result }
-        ensures reads { self.new.read_faults ≡ self.old.read_faults }
+        ensures path { self.new.path ≡ self.old.path }
 
         // What it writes lies in the folder: no part of the name is empty, `.` or `..`.
         ensures inner { OnOk result (leads_out name.now ≡ false) }

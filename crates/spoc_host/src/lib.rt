@@ -11,6 +11,3 @@ mod walk;
 
 pub use folder::HostFolder;
 pub use out::HostOut;
-
-#[cfg(test)]
-mod tests;

@@ -77,6 +77,8 @@ impl Folder for QuietFolder {
 
     ghost larges = { λ q. q.larges };
 
+    ghost put_faults = { λ _. 0 };
+
     /// The paths of the files, each once, in any order. It never answers `Failed` and changes nothing.
     fn list(&mut self, alloc: Global) -> Result<Vec<Text>, IoFail>
         ensures paths { IfOk result (λ paths. ForSome (Some self.old.files) (λ fs. ListsPaths fs paths.items)) }

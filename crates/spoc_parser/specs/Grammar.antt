@@ -6,7 +6,7 @@
 use Rattle.std.specs.Prelude.{ℕ, zero, suc, Bool, true, false, List, Option, codes}
 use Rattle.spoc_parser.specs.declared.forms.Form.{Form}
 use Rattle.spoc_parser.specs.declared.forms.Form.TheVariants.{Any, Name, Address, Prefix, Number, Range, Ports, Icmp, Filter, Routing, Note, ListKey, ValueKey, Flag}
-use Rattle.spoc_parser.specs.Trees.{Lexeme, IdleItem, TermOf, network, host, port, group, aggregate, area, user, nets, hosts, anys, InterOf, SetOf, SetIn, TermIn, HostItem, host_ip, host_range, host_idle, NatItem, nat_ip, NetItem, net_ip, net_host, net_nat, net_idle, IfaceItem, iface_ip, iface_hardware, iface_bind_nat, iface_idle, RouterItem, router_managed, router_model, router_routing, router_iface, router_idle, AreaItem, area_anchor, area_border, area_idle, AnyItem, any_link, any_ip, any_idle, Proto, proto_ip, proto_tcp, proto_udp, proto_icmp, proto_number, ProtoItem, one_proto, a_protocol, a_protogroup, RuleOf, DeclOf, network_decl, router_decl, group_decl, area_decl, aggregate_decl, protocol_decl, protogroup_decl, restriction_decl, service_decl, DeclIn}
+use Rattle.spoc_parser.specs.Trees.{Lexeme, IdleItem, TermOf, network, host, port, group, aggregate, area, user, nets, hosts, anys, InterOf, SetOf, SetIn, TermIn, HostItem, host_ip, host_range, host_idle, NatItem, nat_ip, nat_hidden, NetItem, net_ip, net_host, net_nat, net_idle, VirtItem, virt_ip, virt_kind, virt_id, IfaceItem, iface_ip, iface_hardware, iface_bind_nat, iface_virtual, iface_idle, RouterItem, router_managed, router_model, router_routing, router_iface, router_idle, AreaItem, area_anchor, area_border, area_idle, AnyItem, any_link, any_ip, any_idle, Proto, proto_ip, proto_tcp, proto_udp, proto_icmp, proto_number, ProtoItem, one_proto, a_protocol, a_protogroup, RuleOf, DeclOf, network_decl, router_decl, group_decl, area_decl, aggregate_decl, protocol_decl, protogroup_decl, restriction_decl, service_decl, DeclIn}
 use Rattle.spoc_parser.specs.Phrases.{Phrase, ◌then◌, ◌or◌, nothing, never, where_true, sign, key, a_word, named, at_port, a_text, spread, perhaps, many, some, further, listed, listed_open, single, none_of}
 
 -- `description = TEXT`
@@ -39,6 +39,7 @@ SpellsHostItem (host_idle idle) = SpellsIdle idle
 
 abbrev pub SpellsNatItem : NatItem → Phrase
 SpellsNatItem (nat_ip prefix) = setting (codes "ip") Prefix prefix
+SpellsNatItem nat_hidden = key (codes "hidden") then sign (codes ";")
 
 abbrev pub SpellsNetItem : NetItem → Phrase
 SpellsNetItem (net_ip prefix) = setting (codes "ip") Prefix prefix
@@ -46,10 +47,16 @@ SpellsNetItem (net_host name parts) = named (codes "host:") name then body Spell
 SpellsNetItem (net_nat tag parts) = named (codes "nat:") tag then body SpellsNatItem parts
 SpellsNetItem (net_idle idle) = SpellsIdle idle
 
+abbrev pub SpellsVirtItem : VirtItem → Phrase
+SpellsVirtItem (virt_ip address) = setting (codes "ip") Address address
+SpellsVirtItem (virt_kind word) = setting (codes "type") Any word
+SpellsVirtItem (virt_id number) = setting (codes "id") Number number
+
 abbrev pub SpellsIfaceItem : IfaceItem → Phrase
 SpellsIfaceItem (iface_ip address) = setting (codes "ip") Address address
 SpellsIfaceItem (iface_hardware word) = setting (codes "hardware") Any word
 SpellsIfaceItem (iface_bind_nat tags) = key (codes "bind_nat") then sign (codes "=") then listed (a_word Name) tags then sign (codes ";")
+SpellsIfaceItem (iface_virtual parts) = key (codes "virtual") then body SpellsVirtItem parts
 SpellsIfaceItem (iface_idle idle) = SpellsIdle idle
 
 abbrev pub SpellsRouterItem : RouterItem → Phrase
@@ -125,10 +132,15 @@ SpellsSetIn user_stands (suc depth) area_stands = SpellsSet (SpellsTermOf user_s
 abbrev pub SpellsTerm : (user_stands : Bool) (depth : ℕ) (area_stands : Bool) → TermIn depth → Phrase
 SpellsTerm user_stands depth area_stands = SpellsTermOf user_stands area_stands (SpellsSetIn user_stands depth true)
 
+-- what a rule begins with: whether it denies
+abbrev pub action : Bool → List ℕ
+action true = codes "deny"
+action false = codes "permit"
+
 -- a rule, where a set is spelled so
 abbrev pub SpellsRule : {S : Type 0} → (S → Phrase) → RuleOf S → Phrase
 SpellsRule spells rule =
-    key (codes "permit") then key (codes "src") then sign (codes "=") then spells rule.src then sign (codes ";")
+    key (action rule.deny) then key (codes "src") then sign (codes "=") then spells rule.src then sign (codes ";")
     then key (codes "dst") then sign (codes "=") then spells rule.dst then sign (codes ";")
     then key (codes "prt") then sign (codes "=") then listed_open SpellsProtoItem rule.prts then sign (codes ";")
 

@@ -3,7 +3,7 @@ use Rattle.std.specs.Prelude.{ℕ, zero, suc, Bool, true, false, not, List, [], 
 use Rattle.spoc_lexer.specs.Tokens.{Tok}
 use Rattle.spoc_parser.specs.declared.forms.Form.{Form}
 use Rattle.spoc_parser.specs.declared.forms.Form.TheVariants.{Any, Name, Address, Prefix, Number, Range, Ports, Icmp, Filter, Routing, Note, ListKey, ValueKey, Flag}
-use Rattle.spoc_parser.specs.Trees.{Lexeme, IdleItem, TermOf, network, host, port, group, aggregate, area, user, nets, hosts, anys, InterOf, SetOf, SetIn, TermIn, HostItem, host_ip, host_range, host_idle, NatItem, nat_ip, NetItem, net_ip, net_host, net_nat, net_idle, IfaceItem, iface_ip, iface_hardware, iface_bind_nat, iface_idle, RouterItem, router_managed, router_model, router_routing, router_iface, router_idle, AreaItem, area_anchor, area_border, area_idle, AnyItem, any_link, any_ip, any_idle, Proto, proto_ip, proto_tcp, proto_udp, proto_icmp, proto_number, ProtoItem, one_proto, a_protocol, a_protogroup, RuleOf, DeclOf, network_decl, router_decl, group_decl, area_decl, aggregate_decl, protocol_decl, protogroup_decl, restriction_decl, service_decl, DeclIn}
+use Rattle.spoc_parser.specs.Trees.{Lexeme, IdleItem, TermOf, network, host, port, group, aggregate, area, user, nets, hosts, anys, InterOf, SetOf, SetIn, TermIn, HostItem, host_ip, host_range, host_idle, NatItem, nat_ip, nat_hidden, NetItem, net_ip, net_host, net_nat, net_idle, VirtItem, virt_ip, virt_kind, virt_id, IfaceItem, iface_ip, iface_hardware, iface_bind_nat, iface_virtual, iface_idle, RouterItem, router_managed, router_model, router_routing, router_iface, router_idle, AreaItem, area_anchor, area_border, area_idle, AnyItem, any_link, any_ip, any_idle, Proto, proto_ip, proto_tcp, proto_udp, proto_icmp, proto_number, ProtoItem, one_proto, a_protocol, a_protogroup, RuleOf, DeclOf, network_decl, router_decl, group_decl, area_decl, aggregate_decl, protocol_decl, protogroup_decl, restriction_decl, service_decl, DeclIn}
 use Rattle.spoc_parser.specs.Readers.{Reader, then_read, ◌>>=◌, done, past, at_sign, at_key, at_kind, at_form, read_sign, read_key, read_word, read_text, read_named, read_port, read_spread, read_spread_or_none, read_unless, read_until, read_further, read_listed, never_ends, list_ends}
 
 -- `description = TEXT`
@@ -79,8 +79,14 @@ read_host_item toks =
     else if at_key (codes "range") toks then read_host_range toks
     else then_read (read_idle toks) (λ idle. done (host_idle idle))
 
+abbrev pub read_nat_ip : Reader NatItem
+read_nat_ip = read_setting (codes "ip") Prefix >>= λ word. done (nat_ip word)
+
+abbrev pub read_hidden : Reader NatItem
+read_hidden = read_key (codes "hidden") >>= λ _. read_sign (codes ";") >>= λ _. done nat_hidden
+
 abbrev pub read_nat_item : Reader NatItem
-read_nat_item = read_setting (codes "ip") Prefix >>= λ word. done (nat_ip word)
+read_nat_item toks = if at_key (codes "hidden") toks then read_hidden toks else read_nat_ip toks
 
 abbrev pub read_net_ip : Reader NetItem
 read_net_ip = read_setting (codes "ip") Prefix >>= λ word. done (net_ip word)
@@ -98,6 +104,21 @@ read_net_item toks =
     else if at_kind (codes "nat:") toks then read_nat toks
     else then_read (read_idle toks) (λ idle. done (net_idle idle))
 
+abbrev pub read_virt_ip : Reader VirtItem
+read_virt_ip = read_setting (codes "ip") Address >>= λ word. done (virt_ip word)
+
+abbrev pub read_virt_kind : Reader VirtItem
+read_virt_kind = read_setting (codes "type") Any >>= λ word. done (virt_kind word)
+
+abbrev pub read_virt_id : Reader VirtItem
+read_virt_id = read_setting (codes "id") Number >>= λ word. done (virt_id word)
+
+abbrev pub read_virt_item : Reader VirtItem
+read_virt_item toks =
+    if at_key (codes "ip") toks then read_virt_ip toks
+    else if at_key (codes "type") toks then read_virt_kind toks
+    else read_virt_id toks
+
 abbrev pub read_iface_ip : Reader IfaceItem
 read_iface_ip = read_setting (codes "ip") Address >>= λ word. done (iface_ip word)
 
@@ -107,11 +128,15 @@ read_hardware = read_setting (codes "hardware") Any >>= λ word. done (iface_har
 abbrev pub read_bind_nat : Reader IfaceItem
 read_bind_nat = read_key (codes "bind_nat") >>= λ _. read_sign (codes "=") >>= λ _. read_listed never_ends (read_word Name) >>= λ tags. read_sign (codes ";") >>= λ _. done (iface_bind_nat tags)
 
+abbrev pub read_virtual : Reader IfaceItem
+read_virtual = read_key (codes "virtual") >>= λ _. read_body read_virt_item >>= λ parts. done (iface_virtual parts)
+
 abbrev pub read_iface_item : Reader IfaceItem
 read_iface_item toks =
     if at_key (codes "ip") toks then read_iface_ip toks
     else if at_key (codes "hardware") toks then read_hardware toks
     else if at_key (codes "bind_nat") toks then read_bind_nat toks
+    else if at_key (codes "virtual") toks then read_virtual toks
     else then_read (read_idle toks) (λ idle. done (iface_idle idle))
 
 -- the parts of an interface, where `;` says that there are none
@@ -274,11 +299,15 @@ read_side name read = read_key name >>= λ _. read_sign (codes "=") >>= λ _. re
 abbrev pub read_prts : Reader (List ProtoItem)
 read_prts = read_sign (codes "=") >>= λ _. read_listed list_ends read_proto_item >>= λ prts. read_sign (codes ";") >>= λ _. done prts
 
-abbrev pub rule_of : {S : Type 0} → S → S → List ProtoItem → RuleOf S
-rule_of src dst prts = record { src = src; dst = dst; prts = prts }
+abbrev pub rule_of : {S : Type 0} → Bool → S → S → List ProtoItem → RuleOf S
+rule_of deny src dst prts = record { deny = deny; src = src; dst = dst; prts = prts }
+
+-- `deny` or `permit`: whether the rule denies
+abbrev pub read_action : Reader Bool
+read_action toks = if at_key (codes "deny") toks then Some (true, past toks) else then_read (read_key (codes "permit") toks) (λ _. done false)
 
 abbrev pub read_rule : {S : Type 0} → Reader S → Reader (RuleOf S)
-read_rule read = read_key (codes "permit") >>= λ _. read_side (codes "src") read >>= λ src. read_side (codes "dst") read >>= λ dst. read_key (codes "prt") >>= λ _. read_prts >>= λ prts. done (rule_of src dst prts)
+read_rule read = read_action >>= λ deny. read_side (codes "src") read >>= λ src. read_side (codes "dst") read >>= λ dst. read_key (codes "prt") >>= λ _. read_prts >>= λ prts. done (rule_of deny src dst prts)
 
 -- one or more rules up to `}`
 abbrev pub read_rules : {S : Type 0} → Reader S → Reader (List (RuleOf S))

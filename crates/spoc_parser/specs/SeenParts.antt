@@ -1,5 +1,5 @@
 -- The declarations of the code and their parts, as plain ones.
-use Rattle.std.specs.Prelude.{ℕ, List, map}
+use Rattle.std.specs.Prelude.{◌≡◌, ℕ, List, map}
 use Rattle.std.specs.List.{AllZip}
 use Rattle.spoc_ast.specs.declared.word.Word.{Word}
 use Rattle.spoc_ast.specs.declared.set.SetTree.{SetTree}
@@ -7,6 +7,7 @@ use Rattle.spoc_ast.specs.declared.decl.Idle.{Idle}
 use Rattle.spoc_ast.specs.declared.decl.HostPart.{HostPart}
 use Rattle.spoc_ast.specs.declared.decl.NatPart.{NatPart}
 use Rattle.spoc_ast.specs.declared.decl.NetPart.{NetPart}
+use Rattle.spoc_ast.specs.declared.decl.VirtPart.{VirtPart}
 use Rattle.spoc_ast.specs.declared.decl.IfPart.{IfPart}
 use Rattle.spoc_ast.specs.declared.decl.RoutPart.{RoutPart}
 use Rattle.spoc_ast.specs.declared.decl.AreaPart.{AreaPart}
@@ -18,6 +19,7 @@ use Rattle.spoc_ast.specs.declared.decl.Decl.{Decl}
 use Rattle.spoc_ast.specs.declared.decl.HostPart.TheVariants as HostParts
 use Rattle.spoc_ast.specs.declared.decl.NatPart.TheVariants as NatParts
 use Rattle.spoc_ast.specs.declared.decl.NetPart.TheVariants as NetParts
+use Rattle.spoc_ast.specs.declared.decl.VirtPart.TheVariants as VirtParts
 use Rattle.spoc_ast.specs.declared.decl.IfPart.TheVariants as IfParts
 use Rattle.spoc_ast.specs.declared.decl.RoutPart.TheVariants as RoutParts
 use Rattle.spoc_ast.specs.declared.decl.AreaPart.TheVariants as AreaParts
@@ -25,7 +27,7 @@ use Rattle.spoc_ast.specs.declared.decl.AnyPart.TheVariants as AnyParts
 use Rattle.spoc_ast.specs.declared.decl.Simple.TheVariants as Simples
 use Rattle.spoc_ast.specs.declared.decl.Prt.TheVariants as Prts
 use Rattle.spoc_ast.specs.declared.decl.Decl.TheVariants as Decls
-use Rattle.spoc_parser.specs.Trees.{Lexeme, IdleItem, HostItem, host_ip, host_range, host_idle, NatItem, nat_ip, NetItem, net_ip, net_host, net_nat, net_idle, IfaceItem, iface_ip, iface_hardware, iface_bind_nat, iface_idle, RouterItem, router_managed, router_model, router_routing, router_iface, router_idle, AreaItem, area_anchor, area_border, area_idle, AnyItem, any_link, any_ip, any_idle, Proto, proto_ip, proto_tcp, proto_udp, proto_icmp, proto_number, ProtoItem, one_proto, a_protocol, a_protogroup, RuleOf, DeclOf, network_decl, router_decl, group_decl, area_decl, aggregate_decl, protocol_decl, protogroup_decl, restriction_decl, service_decl}
+use Rattle.spoc_parser.specs.Trees.{Lexeme, IdleItem, HostItem, host_ip, host_range, host_idle, NatItem, nat_ip, nat_hidden, NetItem, net_ip, net_host, net_nat, net_idle, VirtItem, virt_ip, virt_kind, virt_id, IfaceItem, iface_ip, iface_hardware, iface_bind_nat, iface_virtual, iface_idle, RouterItem, router_managed, router_model, router_routing, router_iface, router_idle, AreaItem, area_anchor, area_border, area_idle, AnyItem, any_link, any_ip, any_idle, Proto, proto_ip, proto_tcp, proto_udp, proto_icmp, proto_number, ProtoItem, one_proto, a_protocol, a_protogroup, RuleOf, DeclOf, network_decl, router_decl, group_decl, area_decl, aggregate_decl, protocol_decl, protogroup_decl, restriction_decl, service_decl}
 use Rattle.spoc_parser.specs.Seen.{IsWord, IsPort, IsPerhaps}
 
 abbrev pub AreWords : ℕ → List Lexeme → List Word → Type 0
@@ -46,6 +48,8 @@ IsHostItem file item part = ⊥
 
 abbrev pub IsNatItem : ℕ → NatItem → NatPart → Type 0
 IsNatItem file (nat_ip prefix) (NatParts.Ip word) = IsWord file prefix word
+IsNatItem file nat_hidden NatParts.Hidden = Unit {0}
+IsNatItem file item part = ⊥
 
 abbrev pub IsNetItem : ℕ → NetItem → NetPart → Type 0
 IsNetItem file (net_ip prefix) (NetParts.Ip word) = IsWord file prefix word
@@ -54,10 +58,17 @@ IsNetItem file (net_nat tag items) (NetParts.Nat word parts) = IsWord file tag w
 IsNetItem file (net_idle item) (NetParts.Idle idle) = IsIdle file item idle
 IsNetItem file item part = ⊥
 
+abbrev pub IsVirtItem : ℕ → VirtItem → VirtPart → Type 0
+IsVirtItem file (virt_ip address) (VirtParts.Ip word) = IsWord file address word
+IsVirtItem file (virt_kind name) (VirtParts.Kind word) = IsWord file name word
+IsVirtItem file (virt_id number) (VirtParts.Id word) = IsWord file number word
+IsVirtItem file item part = ⊥
+
 abbrev pub IsIfaceItem : ℕ → IfaceItem → IfPart → Type 0
 IsIfaceItem file (iface_ip address) (IfParts.Ip word) = IsWord file address word
 IsIfaceItem file (iface_hardware name) (IfParts.Hardware word) = IsWord file name word
 IsIfaceItem file (iface_bind_nat tags) (IfParts.BindNat words) = AreWords file tags words.now
+IsIfaceItem file (iface_virtual items) (IfParts.Virtual parts) = AllZip (IsVirtItem file) items parts.now
 IsIfaceItem file (iface_idle item) (IfParts.Idle idle) = IsIdle file item idle
 IsIfaceItem file item part = ⊥
 
@@ -96,7 +107,7 @@ IsProtoItem file (a_protogroup name) (Prts.Group word) = IsWord file name word
 IsProtoItem file item prt = ⊥
 
 abbrev pub IsRule : {S : Type 0} → ℕ → (S → SetTree → Type 0) → RuleOf S → RuleTree → Type 0
-IsRule file R rule tree = R rule.src tree.src × R rule.dst tree.dst × AllZip (IsProtoItem file) rule.prts tree.prts.now
+IsRule file R rule tree = (tree.deny ≡ rule.deny) × R rule.src tree.src × R rule.dst tree.dst × AllZip (IsProtoItem file) rule.prts tree.prts.now
 
 abbrev pub IsDecl : {S : Type 0} → ℕ → (S → SetTree → Type 0) → DeclOf S → Decl → Type 0
 IsDecl file R (network_decl name desc items) (Decls.Network word text parts) = IsWord file name word × IsPerhaps (IsWord file) desc text × AllZip (IsNetItem file) items parts.now

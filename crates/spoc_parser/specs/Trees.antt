@@ -55,6 +55,7 @@ pub data HostItem : Type 0 where
 -- a part of a translation
 pub data NatItem : Type 0 where
   nat_ip : (prefix : Lexeme) → NatItem
+  nat_hidden : NatItem
 
 -- a part of a network
 pub data NetItem : Type 0 where
@@ -63,11 +64,18 @@ pub data NetItem : Type 0 where
   net_nat : (tag : Lexeme) (parts : List NatItem) → NetItem
   net_idle : (idle : IdleItem) → NetItem
 
+-- a part of an address that interfaces share
+pub data VirtItem : Type 0 where
+  virt_ip : (address : Lexeme) → VirtItem
+  virt_kind : (word : Lexeme) → VirtItem
+  virt_id : (number : Lexeme) → VirtItem
+
 -- a part of an interface
 pub data IfaceItem : Type 0 where
   iface_ip : (address : Lexeme) → IfaceItem
   iface_hardware : (word : Lexeme) → IfaceItem
   iface_bind_nat : (tags : List Lexeme) → IfaceItem
+  iface_virtual : (parts : List VirtItem) → IfaceItem
   iface_idle : (idle : IdleItem) → IfaceItem
 
 -- a part of a router
@@ -104,8 +112,9 @@ pub data ProtoItem : Type 0 where
   a_protocol : (name : Lexeme) → ProtoItem
   a_protogroup : (name : Lexeme) → ProtoItem
 
--- a rule
+-- a rule, which denies or permits
 pub record RuleOf (S : Type 0) : Type 0 where
+  pub deny : Bool
   pub src : S
   pub dst : S
   pub prts : List ProtoItem

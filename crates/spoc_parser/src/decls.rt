@@ -1,7 +1,7 @@
 ghost use Rattle.std.specs.Prelude.{◌≡◌, ◌<◌, ◌≤◌, OnOk, IfOk, ℕ, [], ◌∷◌, true, false, length, codes};
 ghost use Rattle.std.specs.List.{AllZip};
 ghost use Rattle.spoc_parser.specs.Readers.{at_sign, read_until, read_unless, read_listed, read_port, read_further, read_word, never_ends, list_ends};
-ghost use Rattle.spoc_parser.specs.Reading.{read_set_in, read_side, read_rule, read_rules, read_network, read_router, read_area, read_aggregate, read_group, read_protocol, read_protogroup, read_restriction, read_service, read_decl_in};
+ghost use Rattle.spoc_parser.specs.Reading.{read_set_in, read_side, read_action, read_rule, read_rules, read_network, read_router, read_area, read_aggregate, read_group, read_protocol, read_protogroup, read_restriction, read_service, read_decl_in};
 ghost use Rattle.spoc_parser.specs.Seen.{toks_of, Gives, IsPort, IsPerhaps, IsSetIn};
 ghost use Rattle.spoc_parser.specs.SeenParts.{AreWords, IsRule, IsDecl};
 
@@ -45,17 +45,34 @@ impl<'a> Source<'a> {
         Ok(set)
     }
 
+    // `deny` or `permit`: whether a rule denies.
+    fn action(self, tokens: &mut Cursor<'a, '_>) -> Result<bool, Stop>
+        ensures gives { Gives (λ a x. x ≡ a) result (toks_of tokens.new.rest.now) (read_action (toks_of tokens.old.rest.now)) }
+        ensures shorter { OnOk result (length tokens.new.rest.now < length tokens.old.rest.now) }
+    {
+        if tokens.take_key(b"deny") {
+            return Ok(true);
+        }
+        tokens.key(b"permit")?;
+        Ok(false)
+    }
+
     // A rule.
     fn rule(self, tokens: &mut Cursor<'a, '_>, depth: u8) -> Result<RuleTree<'a>, Stop>
         ensures gives { Gives (IsRule self.entry.file (IsSetIn self.entry.file depth)) result (toks_of tokens.new.rest.now) (read_rule (read_set_in true depth false) (toks_of tokens.old.rest.now)) }
         ensures shorter { OnOk result (length tokens.new.rest.now < length tokens.old.rest.now) }
     {
-        tokens.key(b"permit")?;
+        let deny = self.action(tokens)?;
         let src = self.side(tokens, b"src", true, depth)?;
         let dst = self.side(tokens, b"dst", true, depth)?;
         tokens.key(b"prt")?;
         let prts = self.prts(tokens)?;
-        Ok(RuleTree { src, dst, prts })
+        Ok(RuleTree {
+            deny,
+            src,
+            dst,
+            prts,
+        })
     }
 
     // The rules up to `}`.

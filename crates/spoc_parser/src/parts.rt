@@ -1,17 +1,17 @@
 ghost use Rattle.std.specs.Prelude.{◌≡◌, ◌<◌, ◌≤◌, OnOk, length, List, [], ◌∷◌, codes};
 ghost use Rattle.std.specs.List.{AllZip};
-ghost use Rattle.spoc_parser.specs.Trees.{Lexeme, PortItem, IdleItem, HostItem, NatItem, NetItem, IfaceItem, RouterItem, AreaItem, AnyItem};
+ghost use Rattle.spoc_parser.specs.Trees.{Lexeme, PortItem, IdleItem, HostItem, NatItem, NetItem, VirtItem, IfaceItem, RouterItem, AreaItem, AnyItem};
 ghost use Rattle.spoc_parser.specs.Readers.{read_unless, read_port, read_listed, never_ends};
-ghost use Rattle.spoc_parser.specs.Reading.{read_desc, read_desc_part, no_desc, no_value, read_filter, read_list_idle, read_value_idle, read_flag_idle, read_idle, read_setting, read_at_network, read_parts, read_body, read_opening, read_host_range, read_host_item, read_nat_item, read_net_ip, read_host, read_nat, read_net_item, read_iface_item, read_bind_nat, read_iface_body, read_iface, read_managed, read_router_item, read_border, read_area_item, read_any_item};
+ghost use Rattle.spoc_parser.specs.Reading.{read_desc, read_desc_part, no_desc, no_value, read_filter, read_list_idle, read_value_idle, read_flag_idle, read_idle, read_setting, read_at_network, read_parts, read_body, read_opening, read_host_range, read_host_item, read_hidden, read_nat_ip, read_nat_item, read_net_ip, read_host, read_nat, read_net_item, read_virt_item, read_iface_item, read_bind_nat, read_virtual, read_iface_body, read_iface, read_managed, read_router_item, read_border, read_area_item, read_any_item};
 ghost use Rattle.spoc_parser.specs.Seen.{toks_of, Gives, IsWord, IsPort, IsPerhaps};
-ghost use Rattle.spoc_parser.specs.SeenParts.{IsIdle, IsHostItem, IsNatItem, IsNetItem, IsIfaceItem, IsRouterItem, IsAreaItem, IsAnyItem};
+ghost use Rattle.spoc_parser.specs.SeenParts.{IsIdle, IsHostItem, IsNatItem, IsNetItem, IsVirtItem, IsIfaceItem, IsRouterItem, IsAreaItem, IsAnyItem};
 
 use crate::cursor::{Cursor, Source};
 use crate::fail::Stop;
 use crate::forms::Form;
 use crate::lists::{End, Part};
 use spoc_ast::{
-    AnyPart, AreaPart, HostPart, Idle, IfPart, NatPart, NetPart, PortName, RoutPart, Word,
+    AnyPart, AreaPart, HostPart, Idle, IfPart, NatPart, NetPart, PortName, RoutPart, VirtPart, Word,
 };
 
 impl<'a> Source<'a> {
@@ -148,6 +148,16 @@ impl<'a> Source<'a> {
         Ok(HostPart::Range(words))
     }
 
+    // `hidden;`
+    fn hidden(self, tokens: &mut Cursor<'a, '_>) -> Result<NatPart<'a>, Stop>
+        ensures gives { Gives (IsNatItem self.entry.file) result (toks_of tokens.new.rest.now) (read_hidden (toks_of tokens.old.rest.now)) }
+        ensures shorter { OnOk result (length tokens.new.rest.now < length tokens.old.rest.now) }
+    {
+        tokens.key(b"hidden")?;
+        tokens.sign(b";")?;
+        Ok(NatPart::Hidden)
+    }
+
     // A host of a network.
     fn host(self, tokens: &mut Cursor<'a, '_>) -> Result<NetPart<'a>, Stop>
         ensures gives { Gives (IsNetItem self.entry.file) result (toks_of tokens.new.rest.now) (read_host (toks_of tokens.old.rest.now)) }
@@ -178,6 +188,16 @@ impl<'a> Source<'a> {
         let tags = self.words(tokens, Form::Name)?;
         tokens.sign(b";")?;
         Ok(IfPart::BindNat(tags))
+    }
+
+    // An address that interfaces share.
+    fn shared(self, tokens: &mut Cursor<'a, '_>) -> Result<IfPart<'a>, Stop>
+        ensures gives { Gives (IsIfaceItem self.entry.file) result (toks_of tokens.new.rest.now) (read_virtual (toks_of tokens.old.rest.now)) }
+        ensures shorter { OnOk result (length tokens.new.rest.now < length tokens.old.rest.now) }
+    {
+        tokens.key(b"virtual")?;
+        let parts = self.body(tokens)?;
+        Ok(IfPart::Virtual(parts))
     }
 
     // The parts of an interface, where `;` says that there are none.
@@ -298,6 +318,9 @@ impl<'a> Part<'a> for NatPart<'a> {
     ghost is = { IsNatItem };
 
     fn part(source: Source<'a>, tokens: &mut Cursor<'a, '_>) -> Result<Self, Stop> {
+        if tokens.at_key(b"hidden") {
+            return source.hidden(tokens);
+        }
         let word = source.setting(tokens, b"ip", Form::Prefix)?;
         Ok(NatPart::Ip(word))
     }
@@ -326,6 +349,27 @@ impl<'a> Part<'a> for NetPart<'a> {
     }
 }
 
+impl<'a> Part<'a> for VirtPart<'a> {
+    ghost Plain = { VirtItem };
+
+    ghost reads = { read_virt_item };
+
+    ghost is = { IsVirtItem };
+
+    fn part(source: Source<'a>, tokens: &mut Cursor<'a, '_>) -> Result<Self, Stop> {
+        if tokens.at_key(b"ip") {
+            let word = source.setting(tokens, b"ip", Form::Address)?;
+            return Ok(VirtPart::Ip(word));
+        }
+        if tokens.at_key(b"type") {
+            let word = source.setting(tokens, b"type", Form::Any)?;
+            return Ok(VirtPart::Kind(word));
+        }
+        let number = source.setting(tokens, b"id", Form::Number)?;
+        Ok(VirtPart::Id(number))
+    }
+}
+
 impl<'a> Part<'a> for IfPart<'a> {
     ghost Plain = { IfaceItem };
 
@@ -344,6 +388,9 @@ impl<'a> Part<'a> for IfPart<'a> {
         }
         if tokens.at_key(b"bind_nat") {
             return source.bind_nat(tokens);
+        }
+        if tokens.at_key(b"virtual") {
+            return source.shared(tokens);
         }
         let idle = source.idle(tokens)?;
         Ok(IfPart::Idle(idle))

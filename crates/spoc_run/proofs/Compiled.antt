@@ -8,7 +8,7 @@ use Rattle.spoc_io.specs.Files.{Files}
 use Rattle.policy_outcome.specs.Outcome.{Written}
 use Rattle.policy_compile.specs.Seen.{written_of}
 use Rattle.policy_compile.specs.declared.compiled.Compiled.{Compiled}
-use Rattle.compile_core.specs.Outcome.{outcome_of}
+use Rattle.source_laws.specs.Sources.{outcome_of}
 use Rattle.compile_core.specs.Exact.{AreExact, file_names}
 use Rattle.spoc_run.specs.Outcome.{compiled_of}
 use Rattle.spoc_run.specs.Decided.{IsCompiled, IsExactly}

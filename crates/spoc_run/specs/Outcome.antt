@@ -4,7 +4,7 @@ use Rattle.std.specs.Option.{option_map, option_and_then}
 use Rattle.std.specs.Str.{bytes_eq}
 use Rattle.spoc_io.specs.Files.{Files}
 use Rattle.policy_outcome.specs.Outcome.{Written, summary_text}
-use Rattle.compile_core.specs.Outcome.{outcome_of}
+use Rattle.source_laws.specs.Sources.{outcome_of}
 use Rattle.spoc_run.specs.Policy.{policy_of, first_large, most_of_all}
 
 -- whether the words are `compile POLICY CODE`

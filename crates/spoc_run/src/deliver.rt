@@ -14,7 +14,7 @@ pub fn put_all<C: Target>(code: &mut C, files: &[DeviceFile]) -> Result<(), PutF
     requires { IsDistinct bytes_eq (paths (map file_of files.now)) }
     ensures ok { OnOk result (BothTold (PutsAll (map file_of files.now)) (C.files code.old) (C.files code.new)) }
     ensures err { OnErr result (BothTold (PutsSome (map file_of files.now)) (C.files code.old) (C.files code.new)) }
-    ensures cause { HasCause (C.Target.faults code.old) (C.Target.faults code.new) result }
+    ensures cause { HasCause (C.put_faults code.old) (C.put_faults code.new) result }
 {
     for file in files {
         code.put(file.name.bytes(), file.bytes.bytes())?;

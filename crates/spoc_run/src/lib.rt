@@ -14,9 +14,17 @@ mod top;
 pub use top::run;
 
 #[cfg(test)]
+mod cases;
+#[cfg(test)]
+mod denied;
+#[cfg(test)]
+mod faults;
+#[cfg(test)]
 mod nested;
 #[cfg(test)]
 mod rows;
+#[cfg(test)]
+mod shared;
 #[cfg(test)]
 mod tests;
 #[cfg(test)]

@@ -1,6 +1,6 @@
 // Whole runs over policies with networks inside others, with lists that were worked out by hand: the deeper pair first, and closed where an outer permit reaches
 // into it.
-use crate::rows::{Wanted, check, refuse};
+use crate::cases::{CASE, Case, check_all};
 use std::test::Fail;
 
 // ---- a dmz inside the internet's prefix
@@ -41,17 +41,6 @@ interface E3
  ip access-group E3_in in
 ";
 
-#[test]
-fn a_dmz_in_the_internet_is_shut(rt: HostRuntime) -> Result<(), Fail> {
-    let wanted = Wanted {
-        status: 0,
-        text: "networks 3\nzones 3\nrouters 1\npermits 1\nlocal 0\nlines 6\nroutes 0\n",
-        held: &[("r1", DMZ_FILE)],
-    };
-    check(&rt, rt.alloc(), &[DMZ], &wanted)?;
-    Ok(())
-}
-
 // ---- a network inside one of its own zone
 
 const OWN_ZONE: &str = "\
@@ -87,18 +76,6 @@ interface E2
  ip access-group E2_in in
 ";
 
-// The service is for both, so that nothing has to be shut.
-#[test]
-fn a_network_inside_one_of_its_zone_is_permitted_too(rt: HostRuntime) -> Result<(), Fail> {
-    let wanted = Wanted {
-        status: 0,
-        text: "networks 3\nzones 2\nrouters 1\npermits 2\nlocal 0\nlines 6\nroutes 0\n",
-        held: &[("r1", OWN_ZONE_FILE)],
-    };
-    check(&rt, rt.alloc(), &[OWN_ZONE], &wanted)?;
-    Ok(())
-}
-
 const CROSSING: &str = "\
 network:n1 = { ip = 10.1.1.0/24; }
 network:n2 = { ip = 10.1.2.0/24; host:h = { range = 10.1.2.100-10.1.2.150; } }
@@ -128,25 +105,6 @@ service:s1 = {
 network:sub = { ip = 10.1.2.128/25; }
 router:u = { interface:n2 = { ip = 10.1.2.2; } interface:sub; }
 ";
-
-// Addresses of a host that lie at a network inside its own are no host's.
-#[test]
-fn hosts_inside_a_nested_network_are_refused(rt: HostRuntime) -> Result<(), Fail> {
-    let alloc = rt.alloc();
-    refuse(
-        &rt,
-        alloc,
-        &[CROSSING],
-        "fault HostShadowed host:h network:sub zone:n1\n",
-    )?;
-    refuse(
-        &rt,
-        alloc,
-        &[WITHIN],
-        "fault HostShadowed host:h network:sub zone:n1\n",
-    )?;
-    Ok(())
-}
 
 // ---- three levels
 
@@ -198,17 +156,6 @@ interface E3
 interface E4
  ip access-group E4_in in
 ";
-
-#[test]
-fn three_levels_are_shut_from_the_deepest_on(rt: HostRuntime) -> Result<(), Fail> {
-    let wanted = Wanted {
-        status: 0,
-        text: "networks 4\nzones 4\nrouters 1\npermits 2\nlocal 0\nlines 10\nroutes 0\n",
-        held: &[("r1", LEVELS_FILE)],
-    };
-    check(&rt, rt.alloc(), &[LEVELS], &wanted)?;
-    Ok(())
-}
 
 // ---- networks inside both ends
 
@@ -286,18 +233,6 @@ interface E3
  ip access-group E3_in in
 ";
 
-// At r1's interface at the link both ends have networks inside; at r2's first interface its own small network is a destination, too.
-#[test]
-fn networks_inside_both_ends_are_shut(rt: HostRuntime) -> Result<(), Fail> {
-    let wanted = Wanted {
-        status: 0,
-        text: "networks 5\nzones 5\nrouters 2\npermits 1\nlocal 0\nlines 22\nroutes 0\n",
-        held: &[("r1", BOTH_ENDS_R1), ("r2", BOTH_ENDS_R2)],
-    };
-    check(&rt, rt.alloc(), &[BOTH_ENDS], &wanted)?;
-    Ok(())
-}
-
 // ---- one pair, shut at one interface and open at another
 
 const ONE_WAY_SHUT: &str = "\
@@ -363,18 +298,6 @@ interface E1
 interface E2
  ip access-group E2_in in
 ";
-
-// No walk to the internet passes r2, so that nothing reaches into the dmz there.
-#[test]
-fn a_pair_is_shut_only_where_the_outer_one_passes(rt: HostRuntime) -> Result<(), Fail> {
-    let wanted = Wanted {
-        status: 0,
-        text: "networks 4\nzones 4\nrouters 2\npermits 2\nlocal 0\nlines 13\nroutes 0\n",
-        held: &[("r1", ONE_WAY_SHUT_R1), ("r2", ONE_WAY_SHUT_R2)],
-    };
-    check(&rt, rt.alloc(), &[ONE_WAY_SHUT], &wanted)?;
-    Ok(())
-}
 
 // ---- networks inside one behind two routers that aren't managed
 
@@ -446,25 +369,119 @@ interface E2
  ip access-group E2_in in
 ";
 
+static ONE_INSIDE: [Case; 2] = [
+    // A dmz in the internet is shut.
+    Case {
+        files: &[("p", &[DMZ])],
+        text: "networks 3\nzones 3\nrouters 1\npermits 1\nlocal 0\nlines 6\nroutes 0\n",
+        held: &[("r1", DMZ_FILE)],
+        ..CASE
+    },
+    // A network inside one of its zone is permitted too: the service is for both, so that nothing has to be shut.
+    Case {
+        files: &[("p", &[OWN_ZONE])],
+        text: "networks 3\nzones 2\nrouters 1\npermits 2\nlocal 0\nlines 6\nroutes 0\n",
+        held: &[("r1", OWN_ZONE_FILE)],
+        ..CASE
+    },
+];
+
 #[test]
-fn a_service_to_a_network_is_for_those_inside(rt: HostRuntime) -> Result<(), Fail> {
-    let wanted = Wanted {
-        status: 0,
-        text: "networks 5\nzones 2\nrouters 1\npermits 3\nlocal 0\nlines 8\nroutes 0\n",
-        held: &[("r1", TO_BIG_FILE)],
-    };
-    check(&rt, rt.alloc(), &[BEHIND_TWO, TO_BIG], &wanted)?;
+fn a_network_inside_another(rt: HostRuntime) -> Result<(), Fail> {
+    check_all(&rt, rt.alloc(), &ONE_INSIDE)?;
     Ok(())
 }
 
-// The set has `big` and `sub2`; `big` is for `sub1` and `sub2`, too, so that `sub2` comes twice.
+static SHADOWED: [Case; 2] = [
+    // A host that reaches into a nested network: addresses of a host that lie at a network inside its own are no host's.
+    Case {
+        files: &[("p", &[CROSSING])],
+        status: 1,
+        text: "fault HostShadowed host:h network:sub zone:n1\n",
+        ..CASE
+    },
+    // A host inside a nested network.
+    Case {
+        files: &[("p", &[WITHIN])],
+        status: 1,
+        text: "fault HostShadowed host:h network:sub zone:n1\n",
+        ..CASE
+    },
+];
+
 #[test]
-fn a_set_with_one_network_taken_out(rt: HostRuntime) -> Result<(), Fail> {
-    let wanted = Wanted {
-        status: 0,
+fn hosts_inside_a_nested_network_are_refused(rt: HostRuntime) -> Result<(), Fail> {
+    check_all(&rt, rt.alloc(), &SHADOWED)?;
+    Ok(())
+}
+
+static DEEP: [Case; 1] = [
+    // Three levels are shut from the deepest on.
+    Case {
+        files: &[("p", &[LEVELS])],
+        text: "networks 4\nzones 4\nrouters 1\npermits 2\nlocal 0\nlines 10\nroutes 0\n",
+        held: &[("r1", LEVELS_FILE)],
+        ..CASE
+    },
+];
+
+#[test]
+fn three_levels_are_shut_from_the_deepest_on(rt: HostRuntime) -> Result<(), Fail> {
+    check_all(&rt, rt.alloc(), &DEEP)?;
+    Ok(())
+}
+
+static BOTH: [Case; 1] = [
+    // Networks inside both ends are shut: at r1's interface at the link both ends have networks inside; at r2's first interface its own small network is a destination, too.
+    Case {
+        files: &[("p", &[BOTH_ENDS])],
+        text: "networks 5\nzones 5\nrouters 2\npermits 1\nlocal 0\nlines 22\nroutes 0\n",
+        held: &[("r1", BOTH_ENDS_R1), ("r2", BOTH_ENDS_R2)],
+        ..CASE
+    },
+];
+
+#[test]
+fn networks_inside_both_ends_are_shut(rt: HostRuntime) -> Result<(), Fail> {
+    check_all(&rt, rt.alloc(), &BOTH)?;
+    Ok(())
+}
+
+static PASSING: [Case; 1] = [
+    // A pair is shut only where the outer one passes: no walk to the internet passes r2, so that nothing reaches into the dmz there.
+    Case {
+        files: &[("p", &[ONE_WAY_SHUT])],
+        text: "networks 4\nzones 4\nrouters 2\npermits 2\nlocal 0\nlines 13\nroutes 0\n",
+        held: &[("r1", ONE_WAY_SHUT_R1), ("r2", ONE_WAY_SHUT_R2)],
+        ..CASE
+    },
+];
+
+#[test]
+fn a_pair_is_shut_only_where_the_outer_one_passes(rt: HostRuntime) -> Result<(), Fail> {
+    check_all(&rt, rt.alloc(), &PASSING)?;
+    Ok(())
+}
+
+static FOR_THOSE_INSIDE: [Case; 2] = [
+    // A service to a network is for those inside.
+    Case {
+        files: &[("p", &[BEHIND_TWO, TO_BIG])],
+        text: "networks 5\nzones 2\nrouters 1\npermits 3\nlocal 0\nlines 8\nroutes 0\n",
+        held: &[("r1", TO_BIG_FILE)],
+        ..CASE
+    },
+    // A set with one network taken out: the set has `big` and `sub2`; `big` is for `sub1` and `sub2`, too, so that `sub2` comes twice.
+    Case {
+        files: &[("p", &[BEHIND_TWO, TO_A_SET])],
         text: "networks 5\nzones 2\nrouters 1\npermits 4\nlocal 0\nlines 10\nroutes 0\n",
         held: &[("r1", TO_A_SET_FILE)],
-    };
-    check(&rt, rt.alloc(), &[BEHIND_TWO, TO_A_SET], &wanted)?;
+        ..CASE
+    },
+];
+
+#[test]
+fn a_service_to_a_network_is_for_those_inside(rt: HostRuntime) -> Result<(), Fail> {
+    check_all(&rt, rt.alloc(), &FOR_THOSE_INSIDE)?;
     Ok(())
 }

@@ -1,109 +1,11 @@
 // Whole runs over policies that were worked out by hand: services with hosts and several protocols,
 // areas, several routers, restrictions, routers that aren't managed, and an ASA.
-use crate::run;
-use crate::tests::{folder, target, words};
-use spoc_base::{NoMemory, Text};
-use spoc_io::{MemFolder, MemOut};
-use std::alloc::Global;
-use std::process::Abort;
+use crate::cases::{CASE, Case, check_all};
 use std::test::Fail;
-
-// The parts of a policy, as one text.
-fn joined(alloc: Global, parts: &[&str]) -> Result<String, NoMemory> {
-    let mut text = String::new(alloc);
-    for part in parts {
-        text.push_str(part)?;
-    }
-    Ok(text)
-}
-
-// What a call is to answer, to write, and to leave in the target: names and texts of files.
-#[derive(Clone, Copy)]
-pub(crate) struct Wanted<'w> {
-    pub(crate) status: u8,
-    pub(crate) text: &'w str,
-    pub(crate) held: &'w [(&'w str, &'w str)],
-}
-
-// Compares the files that the target holds.
-fn compare_held(rt: &impl Abort, code: &MemFolder, held: &[(&str, &str)]) {
-    let count = code.held_len();
-    assert_eq!(rt; count, held.len());
-    for k in 0..count {
-        assert_eq!(rt; code.held_name(k), held[k].0.as_bytes());
-        assert_eq!(rt; code.held_bytes(k), held[k].1.as_bytes());
-    }
-}
-
-// Compiles the policy of a folder, where some calls of `put` fail, and compares.
-fn compare(
-    rt: &impl Abort,
-    alloc: Global,
-    policy: &mut MemFolder,
-    put_fails: &[(u32, u64)],
-    wanted: &Wanted<'_>,
-) -> Result<(), NoMemory> {
-    let words = words(alloc, &["compile", "p", "c"])?;
-    let mut code = target(alloc, put_fails)?;
-    let mut out = MemOut::new(alloc, 1000, Vec::new(alloc))?;
-    let status = run(alloc, &words, policy, &mut code, &mut out);
-    assert_eq!(rt; out.text(), wanted.text.as_bytes());
-    assert_eq!(rt; status, wanted.status);
-    compare_held(rt, &code, wanted.held);
-    Ok(())
-}
-
-// Compiles a policy of one file, which has these parts, and compares.
-pub(crate) fn check(
-    rt: &impl Abort,
-    alloc: Global,
-    parts: &[&str],
-    wanted: &Wanted<'_>,
-) -> Result<(), NoMemory> {
-    let text = joined(alloc, parts)?;
-    let mut policy = folder(alloc, text.as_bytes(), &[])?;
-    compare(rt, alloc, &mut policy, &[], wanted)
-}
-
-// Compiles a policy of one file, which is refused with this line.
-pub(crate) fn refuse(
-    rt: &impl Abort,
-    alloc: Global,
-    parts: &[&str],
-    line: &str,
-) -> Result<(), NoMemory> {
-    let wanted = Wanted {
-        status: 1,
-        text: line,
-        held: &[],
-    };
-    check(rt, alloc, parts, &wanted)
-}
-
-// A folder of several files, some of which are skipped.
-fn several_files(
-    alloc: Global,
-    hosts: &[u8],
-    router: &[u8],
-    rules: &[u8],
-) -> Result<MemFolder, NoMemory> {
-    let config = (Text::of(alloc, b"config")?, Text::of(alloc, b"no policy")?);
-    let rules = (Text::of(alloc, b"rules")?, Text::of(alloc, rules)?);
-    let old = (Text::of(alloc, b"net/r1~")?, Text::of(alloc, b"no policy")?);
-    let router = (Text::of(alloc, b"net/r1")?, Text::of(alloc, router)?);
-    let hosts = (Text::of(alloc, b"net/hosts")?, Text::of(alloc, hosts)?);
-    let mut files = Vec::new(alloc);
-    files.push(config)?;
-    files.push(rules)?;
-    files.push(old)?;
-    files.push(router)?;
-    files.push(hosts)?;
-    MemFolder::new(alloc, files, 0, Vec::new(alloc), Vec::new(alloc))
-}
 
 // ---- one router
 
-const ONE_ROUTER: &str = "\
+pub(crate) const ONE_ROUTER: &str = "\
 router:r1 = {
  managed;
  model = IOS;
@@ -144,26 +46,7 @@ interface E2
  ip access-group E2_in in
 ";
 
-// The policy stands in three files, two of them in a folder; others are skipped.
-#[test]
-fn a_range_of_hosts_in_several_files(rt: HostRuntime) -> Result<(), Fail> {
-    let alloc = rt.alloc();
-    let wanted = Wanted {
-        status: 0,
-        text: "networks 2\nzones 2\nrouters 1\npermits 1\nlocal 0\nlines 10\nroutes 0\n",
-        held: &[("r1", HOSTS_FILE)],
-    };
-    let mut policy = several_files(
-        alloc,
-        HOSTS.as_bytes(),
-        ONE_ROUTER.as_bytes(),
-        HOSTS_SERVICE.as_bytes(),
-    )?;
-    compare(&rt, alloc, &mut policy, &[], &wanted)?;
-    Ok(())
-}
-
-const NETS: &str = "\
+pub(crate) const NETS: &str = "\
 network:n1 = { ip = 10.1.1.0/24; }
 network:n2 = { ip = 10.1.2.0/24; }
 ";
@@ -195,19 +78,6 @@ interface E2
  ip access-group E2_in in
 ";
 
-#[test]
-fn several_protocols(rt: HostRuntime) -> Result<(), Fail> {
-    let alloc = rt.alloc();
-    let parts = [NETS, ONE_ROUTER, PROTOCOLS_SERVICE];
-    let wanted = Wanted {
-        status: 0,
-        text: "networks 2\nzones 2\nrouters 1\npermits 5\nlocal 0\nlines 10\nroutes 0\n",
-        held: &[("r1", PROTOCOLS_FILE)],
-    };
-    check(&rt, alloc, &parts, &wanted)?;
-    Ok(())
-}
-
 const ASA_ROUTER: &str = "\
 router:r1 = {
  managed;
@@ -217,7 +87,7 @@ router:r1 = {
 }
 ";
 
-const WEB_SERVICE: &str = "\
+pub(crate) const WEB_SERVICE: &str = "\
 service:s1 = {
  user = network:n1;
  permit src = user; dst = network:n2; prt = tcp 80;
@@ -233,18 +103,20 @@ access-group E1_in in interface E1
 access-group E2_in in interface E2
 ";
 
-#[test]
-fn a_router_that_keeps_state(rt: HostRuntime) -> Result<(), Fail> {
-    let alloc = rt.alloc();
-    let parts = [NETS, ASA_ROUTER, WEB_SERVICE];
-    let wanted = Wanted {
-        status: 0,
-        text: "networks 2\nzones 2\nrouters 1\npermits 1\nlocal 0\nlines 3\nroutes 0\n",
-        held: &[("r1", ASA_FILE)],
-    };
-    check(&rt, alloc, &parts, &wanted)?;
-    Ok(())
-}
+// The file for the one router and the service `WEB_SERVICE`.
+pub(crate) const WEB_FILE: &str = "\
+! r1 IOS
+ip access-list extended E1_in
+ permit tcp 10.1.1.0 0.0.0.255 10.1.2.0 0.0.0.255 eq 80
+ deny ip any any
+ip access-list extended E2_in
+ permit tcp 10.1.2.0 0.0.0.255 eq 80 10.1.1.0 0.0.0.255 established
+ deny ip any any
+interface E1
+ ip access-group E1_in in
+interface E2
+ ip access-group E2_in in
+";
 
 // ---- routers that aren't managed, areas, sets
 
@@ -271,19 +143,6 @@ interface E2
  ip access-group E2_in in
 ";
 
-#[test]
-fn a_network_behind_an_unmanaged_router(rt: HostRuntime) -> Result<(), Fail> {
-    let alloc = rt.alloc();
-    let parts = [NETS, ONE_ROUTER, BEHIND];
-    let wanted = Wanted {
-        status: 0,
-        text: "networks 3\nzones 2\nrouters 1\npermits 1\nlocal 0\nlines 4\nroutes 0\n",
-        held: &[("r1", BEHIND_FILE)],
-    };
-    check(&rt, alloc, &parts, &wanted)?;
-    Ok(())
-}
-
 const NO_ROUTER: &str = "\
 network:n1 = { ip = 10.1.1.0/24; }
 network:n2 = { ip = 10.1.2.0/24; }
@@ -294,18 +153,12 @@ service:s1 = {
 }
 ";
 
-// Without a managed router no file is written.
-#[test]
-fn no_managed_router(rt: HostRuntime) -> Result<(), Fail> {
-    let alloc = rt.alloc();
-    let wanted = Wanted {
-        status: 0,
-        text: "networks 2\nzones 1\nrouters 0\npermits 1\nlocal 1\nlines 0\nroutes 0\n",
-        held: &[],
-    };
-    check(&rt, alloc, &[NO_ROUTER], &wanted)?;
-    Ok(())
+const LOCAL_SERVICE: &str = "\
+service:s1 = {
+ user = network:n2;
+ permit src = user; dst = network:n2; prt = tcp 80;
 }
+";
 
 const EMPTY_SET: &str = "\
 service:s1 = {
@@ -326,24 +179,6 @@ interface E2
  ip access-group E2_in in
 ";
 
-#[test]
-fn a_set_with_nothing_in_it(rt: HostRuntime) -> Result<(), Fail> {
-    let alloc = rt.alloc();
-    let parts = [NETS, ONE_ROUTER, EMPTY_SET];
-    let wanted = Wanted {
-        status: 0,
-        text: "networks 2\nzones 2\nrouters 1\npermits 0\nlocal 0\nlines 2\nroutes 0\n",
-        held: &[("r1", CLOSED)],
-    };
-    check(&rt, alloc, &parts, &wanted)?;
-    Ok(())
-}
-
-// The policy of one router, with further declarations in the place of its service, is refused.
-fn refuse_with(rt: &impl Abort, alloc: Global, more: &str, line: &str) -> Result<(), NoMemory> {
-    refuse(rt, alloc, &[NETS, ONE_ROUTER, more], line)
-}
-
 const SPLIT: &str = "area:a = { anchor = network:n1; border = interface:r1.n2; }\n";
 
 const MANAGED_END: &str = "\
@@ -360,25 +195,6 @@ service:s1 = {
  permit src = user; dst = network:n2; prt = tcp 80;
 }
 ";
-
-#[test]
-fn areas_services_and_walks_are_refused(rt: HostRuntime) -> Result<(), Fail> {
-    let alloc = rt.alloc();
-    refuse_with(
-        &rt,
-        alloc,
-        SPLIT,
-        "fault AreaSplit area:a interface:r1.n2\n",
-    )?;
-    refuse_with(
-        &rt,
-        alloc,
-        MANAGED_END,
-        "fault ManagedEnd service:s1 interface:r1.n2\n",
-    )?;
-    refuse_with(&rt, alloc, NO_PATH, "fault NoPath network:n1 network:n2\n")?;
-    Ok(())
-}
 
 const TWICE: &str = "\
 network:n1 = { ip = 10.1.1.0/24; nat:x = { ip = 192.0.2.0/24; } nat:y = { ip = 198.51.100.0/24; } }
@@ -419,23 +235,9 @@ router:r2 = {
 }
 ";
 
-#[test]
-fn translations_are_refused(rt: HostRuntime) -> Result<(), Fail> {
-    let alloc = rt.alloc();
-    refuse(
-        &rt,
-        alloc,
-        &[TWICE],
-        "fault NatTwice network:n1 zone:n2 nat:x nat:y\n",
-    )?;
-    refuse(&rt, alloc, &[INSIDE], "fault NatInside network:n2 nat:x\n")?;
-    refuse(&rt, alloc, &[CONFLICT], "fault NatConflict nat:x zone:a\n")?;
-    Ok(())
-}
-
 // ---- several routers
 
-const TRIANGLE: &str = "\
+pub(crate) const TRIANGLE: &str = "\
 network:a = { ip = 10.0.1.0/24; }
 network:b = { ip = 10.0.2.0/24; }
 network:c = { ip = 10.0.3.0/24; }
@@ -459,7 +261,7 @@ router:r3 = {
 }
 ";
 
-const RESTRICTED: &str = "\
+pub(crate) const RESTRICTED: &str = "\
 pathrestriction:x = interface:r1.a, interface:r2.c;
 service:s1 = {
  user = network:a;
@@ -467,7 +269,7 @@ service:s1 = {
 }
 ";
 
-const SHUT_R1: &str = "\
+pub(crate) const SHUT_R1: &str = "\
 ! r1 IOS
 ip access-list extended E1_in
  deny ip any any
@@ -479,7 +281,7 @@ interface E2
  ip access-group E2_in in
 ";
 
-const SHUT_R2: &str = "\
+pub(crate) const SHUT_R2: &str = "\
 ! r2 IOS
 ip access-list extended E1_in
  deny ip any any
@@ -508,30 +310,189 @@ interface E2
 const TRIANGLE_SUMMARY: &str =
     "networks 3\nzones 3\nrouters 3\npermits 1\nlocal 0\nlines 8\nroutes 0\n";
 
+static PLAIN: [Case; 3] = [
+    // An empty folder is the empty policy.
+    Case {
+        text: "networks 0\nzones 0\nrouters 0\npermits 0\nlocal 0\nlines 0\nroutes 0\n",
+        ..CASE
+    },
+    // One router and one service.
+    Case {
+        files: &[("p", &[NETS, ONE_ROUTER, WEB_SERVICE])],
+        text: "networks 2\nzones 2\nrouters 1\npermits 1\nlocal 0\nlines 4\nroutes 0\n",
+        held: &[("r1", WEB_FILE)],
+        ..CASE
+    },
+    // No managed router: without a managed router no file is written.
+    Case {
+        files: &[("p", &[NO_ROUTER])],
+        text: "networks 2\nzones 1\nrouters 0\npermits 1\nlocal 1\nlines 0\nroutes 0\n",
+        ..CASE
+    },
+];
+
 #[test]
-fn a_restriction_leaves_one_walk(rt: HostRuntime) -> Result<(), Fail> {
-    let alloc = rt.alloc();
-    let parts = [TRIANGLE, RESTRICTED];
-    let wanted = Wanted {
-        status: 0,
-        text: TRIANGLE_SUMMARY,
-        held: &[("r1", SHUT_R1), ("r2", SHUT_R2), ("r3", OPEN_R3)],
-    };
-    check(&rt, alloc, &parts, &wanted)?;
+fn one_router_and_none(rt: HostRuntime) -> Result<(), Fail> {
+    check_all(&rt, rt.alloc(), &PLAIN)?;
     Ok(())
 }
 
-// The third call of `put` fails, and ten bytes are kept.
+static LOCAL: [Case; 2] = [
+    // A service within a zone.
+    Case {
+        files: &[("p", &[NETS, ONE_ROUTER, LOCAL_SERVICE])],
+        text: "networks 2\nzones 2\nrouters 1\npermits 1\nlocal 1\nlines 2\nroutes 0\n",
+        held: &[("r1", CLOSED)],
+        ..CASE
+    },
+    // A set with nothing in it.
+    Case {
+        files: &[("p", &[NETS, ONE_ROUTER, EMPTY_SET])],
+        text: "networks 2\nzones 2\nrouters 1\npermits 0\nlocal 0\nlines 2\nroutes 0\n",
+        held: &[("r1", CLOSED)],
+        ..CASE
+    },
+];
+
 #[test]
-fn a_failing_put_leaves_the_files_before_it(rt: HostRuntime) -> Result<(), Fail> {
-    let alloc = rt.alloc();
-    let wanted = Wanted {
-        status: 4,
-        text: "",
-        held: &[("r1", SHUT_R1), ("r2", SHUT_R2), ("r3", "! r3 IOS\ni")],
-    };
-    let text = joined(alloc, &[TRIANGLE, RESTRICTED])?;
-    let mut policy = folder(alloc, text.as_bytes(), &[])?;
-    compare(&rt, alloc, &mut policy, &[(3, 10)], &wanted)?;
+fn lists_without_a_permit(rt: HostRuntime) -> Result<(), Fail> {
+    check_all(&rt, rt.alloc(), &LOCAL)?;
+    Ok(())
+}
+
+static SEVERAL_FILES: [Case; 1] = [
+    // A range of hosts in several files: the policy stands in three files, two of them in a folder; others are skipped.
+    Case {
+        files: &[
+            ("config", &["no policy"]),
+            ("rules", &[HOSTS_SERVICE]),
+            ("net/r1~", &["no policy"]),
+            ("net/r1", &[ONE_ROUTER]),
+            ("net/hosts", &[HOSTS]),
+        ],
+        text: "networks 2\nzones 2\nrouters 1\npermits 1\nlocal 0\nlines 10\nroutes 0\n",
+        held: &[("r1", HOSTS_FILE)],
+        ..CASE
+    },
+];
+
+#[test]
+fn a_range_of_hosts_in_several_files(rt: HostRuntime) -> Result<(), Fail> {
+    check_all(&rt, rt.alloc(), &SEVERAL_FILES)?;
+    Ok(())
+}
+
+static PROTOCOLS: [Case; 1] = [
+    // Several protocols.
+    Case {
+        files: &[("p", &[NETS, ONE_ROUTER, PROTOCOLS_SERVICE])],
+        text: "networks 2\nzones 2\nrouters 1\npermits 5\nlocal 0\nlines 10\nroutes 0\n",
+        held: &[("r1", PROTOCOLS_FILE)],
+        ..CASE
+    },
+];
+
+#[test]
+fn several_protocols(rt: HostRuntime) -> Result<(), Fail> {
+    check_all(&rt, rt.alloc(), &PROTOCOLS)?;
+    Ok(())
+}
+
+static OTHER_ROUTERS: [Case; 2] = [
+    // A router that keeps state.
+    Case {
+        files: &[("p", &[NETS, ASA_ROUTER, WEB_SERVICE])],
+        text: "networks 2\nzones 2\nrouters 1\npermits 1\nlocal 0\nlines 3\nroutes 0\n",
+        held: &[("r1", ASA_FILE)],
+        ..CASE
+    },
+    // A network behind an unmanaged router.
+    Case {
+        files: &[("p", &[NETS, ONE_ROUTER, BEHIND])],
+        text: "networks 3\nzones 2\nrouters 1\npermits 1\nlocal 0\nlines 4\nroutes 0\n",
+        held: &[("r1", BEHIND_FILE)],
+        ..CASE
+    },
+];
+
+#[test]
+fn routers_that_keep_state_or_are_not_managed(rt: HostRuntime) -> Result<(), Fail> {
+    check_all(&rt, rt.alloc(), &OTHER_ROUTERS)?;
+    Ok(())
+}
+
+static ONE_WALK: [Case; 1] = [
+    // A restriction leaves one walk.
+    Case {
+        files: &[("p", &[TRIANGLE, RESTRICTED])],
+        text: TRIANGLE_SUMMARY,
+        held: &[("r1", SHUT_R1), ("r2", SHUT_R2), ("r3", OPEN_R3)],
+        ..CASE
+    },
+];
+
+#[test]
+fn a_restriction_leaves_one_walk(rt: HostRuntime) -> Result<(), Fail> {
+    check_all(&rt, rt.alloc(), &ONE_WALK)?;
+    Ok(())
+}
+
+static REFUSED: [Case; 3] = [
+    // A border whose zone isn't in its area.
+    Case {
+        files: &[("p", &[NETS, ONE_ROUTER, SPLIT])],
+        status: 1,
+        text: "fault AreaSplit area:a interface:r1.n2\n",
+        ..CASE
+    },
+    // An interface of a managed router as an end.
+    Case {
+        files: &[("p", &[NETS, ONE_ROUTER, MANAGED_END])],
+        status: 1,
+        text: "fault ManagedEnd service:s1 interface:r1.n2\n",
+        ..CASE
+    },
+    // No allowed walk.
+    Case {
+        files: &[("p", &[NETS, ONE_ROUTER, NO_PATH])],
+        status: 1,
+        text: "fault NoPath network:n1 network:n2\n",
+        ..CASE
+    },
+];
+
+#[test]
+fn areas_services_and_walks_are_refused(rt: HostRuntime) -> Result<(), Fail> {
+    check_all(&rt, rt.alloc(), &REFUSED)?;
+    Ok(())
+}
+
+static TRANSLATIONS: [Case; 3] = [
+    // Two tags of a network in one zone.
+    Case {
+        files: &[("p", &[TWICE])],
+        status: 1,
+        text: "fault NatTwice network:n1 zone:n2 nat:x nat:y\n",
+        ..CASE
+    },
+    // A network translated in its own zone.
+    Case {
+        files: &[("p", &[INSIDE])],
+        status: 1,
+        text: "fault NatInside network:n2 nat:x\n",
+        ..CASE
+    },
+    // A tag in force where it must not be.
+    Case {
+        files: &[("p", &[CONFLICT])],
+        status: 1,
+        text: "fault NatConflict nat:x zone:a\n",
+        ..CASE
+    },
+];
+
+#[test]
+fn translations_are_refused(rt: HostRuntime) -> Result<(), Fail> {
+    check_all(&rt, rt.alloc(), &TRANSLATIONS)?;
     Ok(())
 }

@@ -73,7 +73,7 @@ fn deliver<C: Folder + Target, O: TextOut>(code: &mut C, out: &mut O, answer: &A
     requires status { answer.now.status ≢ 4 }
     requires names { IsDistinct bytes_eq (paths (map file_of answer.now.files)) }
     ensures which { result ≢ 4 → result ≡ answer.now.status }
-    ensures cause { result ≡ 4 → Rose (C.Target.faults code.old) (C.Target.faults code.new) ⊎ Rose (O.faults out.old) (O.faults out.new) }
+    ensures cause { result ≡ 4 → Rose (C.put_faults code.old) (C.put_faults code.new) ⊎ Rose (O.faults out.old) (O.faults out.new) }
     ensures untouched { answer.now.status ≢ 0 → code.new ≡ code.old }
     ensures put { result ≡ 0 → BothTold (PutsAll (map file_of answer.now.files)) (C.files code.old) (C.files code.new) }
     ensures put_part { result ≡ 4 → answer.now.status ≡ 0 → BothTold (PutsSome (map file_of answer.now.files)) (C.files code.old) (C.files code.new) }
@@ -113,7 +113,7 @@ pub fn run<P: Folder, C: Folder + Target, O: TextOut>(
     ensures cause { result ≢ 4 → IsCaused words.now (P.files policy.old) (P.faults policy.old) (P.faults policy.new) (P.larges policy.old) (P.larges policy.new) result }
 
     // 4 comes only where a write failed.
-    ensures write { result ≡ 4 → Rose (C.Target.faults code.old) (C.Target.faults code.new) ⊎ Rose (O.faults out.old) (O.faults out.new) }
+    ensures write { result ≡ 4 → Rose (C.put_faults code.old) (C.put_faults code.new) ⊎ Rose (O.faults out.old) (O.faults out.new) }
 
     // After 0 the target holds the device files, and else what it held.
     ensures put { result ≡ 0 → ForSome (P.files policy.old) (λ fs. BothTold (PutsAll (files_of fs)) (C.files code.old) (C.files code.new)) }
@@ -135,10 +135,10 @@ pub fn run<P: Folder, C: Folder + Target, O: TextOut>(
     ensures exact { result ≡ 0 → ForSome (P.files policy.old) (λ fs. ForSome (C.files code.new) (λ held. HoldsExact (policy_of fs) held)) }
 
     // Where the words match and nothing fails, a policy within the limits is compiled or refused, as it says, unless memory runs out.
-    ensures settled { is_compile words.now ≡ true → NothingFailed (P.faults policy.old) (P.faults policy.new) (C.Target.faults code.old) (C.Target.faults code.new) (O.faults out.old) (O.faults out.new) → ForSome (P.files policy.old) (λ fs. IsSettled (policy_of fs) result) }
+    ensures settled { is_compile words.now ≡ true → NothingFailed (P.faults policy.old) (P.faults policy.new) (C.put_faults code.old) (C.put_faults code.new) (O.faults out.old) (O.faults out.new) → ForSome (P.files policy.old) (λ fs. IsSettled (policy_of fs) result) }
 
     // So it is over a folder that tells no content, where no file was found too large.
-    ensures answered { is_compile words.now ≡ true → NothingFailed (P.faults policy.old) (P.faults policy.new) (C.Target.faults code.old) (C.Target.faults code.new) (O.faults out.old) (O.faults out.new) → (Rose (P.larges policy.old) (P.larges policy.new) → ⊥) → IsTrue (result == 0 || is_either 1 5 result) }
+    ensures answered { is_compile words.now ≡ true → NothingFailed (P.faults policy.old) (P.faults policy.new) (C.put_faults code.old) (C.put_faults code.new) (O.faults out.old) (O.faults out.new) → (Rose (P.larges policy.old) (P.larges policy.new) → ⊥) → IsTrue (result == 0 || is_either 1 5 result) }
 
     // The policy's folder is as before.
     ensures same { P.files policy.new ≡ P.files policy.old }

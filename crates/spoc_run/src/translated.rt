@@ -1,5 +1,5 @@
 // Whole runs over policies with translations, with lists that were worked out by hand: each list speaks the addresses of its own zone.
-use crate::rows::{Wanted, check, refuse};
+use crate::cases::{CASE, Case, check_all};
 use std::test::Fail;
 
 // ---- a translated source
@@ -32,17 +32,6 @@ interface E1
 interface E2
  ip access-group E2_in in
 ";
-
-#[test]
-fn a_translated_network_is_seen_by_its_tag(rt: HostRuntime) -> Result<(), Fail> {
-    let wanted = Wanted {
-        status: 0,
-        text: "networks 2\nzones 2\nrouters 1\npermits 1\nlocal 0\nlines 4\nroutes 0\n",
-        held: &[("r1", TRANSLATED_FILE)],
-    };
-    check(&rt, rt.alloc(), &[TRANSLATED], &wanted)?;
-    Ok(())
-}
 
 // ---- a translated host inside the internet's prefix
 
@@ -78,17 +67,6 @@ interface E1
 interface E2
  ip access-group E2_in in
 ";
-
-#[test]
-fn a_translated_host_is_seen_by_its_offset(rt: HostRuntime) -> Result<(), Fail> {
-    let wanted = Wanted {
-        status: 0,
-        text: "networks 2\nzones 2\nrouters 1\npermits 1\nlocal 0\nlines 4\nroutes 0\n",
-        held: &[("r1", WEB_FILE)],
-    };
-    check(&rt, rt.alloc(), &[WEB], &wanted)?;
-    Ok(())
-}
 
 // ---- two networks of one own prefix
 
@@ -142,18 +120,6 @@ interface E2
  ip access-group E2_in in
 ";
 
-// Neither zone and neither router sees both by their own prefix.
-#[test]
-fn two_networks_of_one_prefix_are_told_apart_by_tags(rt: HostRuntime) -> Result<(), Fail> {
-    let wanted = Wanted {
-        status: 0,
-        text: "networks 3\nzones 3\nrouters 2\npermits 1\nlocal 0\nlines 8\nroutes 0\n",
-        held: &[("r1", TWINS_R1), ("r2", TWINS_R2)],
-    };
-    check(&rt, rt.alloc(), &[TWINS], &wanted)?;
-    Ok(())
-}
-
 const ALONE: &str = "\
 network:c = { ip = 10.9.0.0/24; }
 ";
@@ -179,31 +145,6 @@ router:r1 = {
  interface:b = { ip = 10.0.0.1; hardware = E2; bind_nat = x; }
 }
 ";
-
-// In a zone that nothing joins no tag is in force, and inside a router that binds both neither is.
-#[test]
-fn two_networks_of_one_prefix_are_refused(rt: HostRuntime) -> Result<(), Fail> {
-    let alloc = rt.alloc();
-    refuse(
-        &rt,
-        alloc,
-        &[SAME],
-        "fault SamePrefix network:a network:b zone:a\n",
-    )?;
-    refuse(
-        &rt,
-        alloc,
-        &[TWINS, ALONE],
-        "fault SamePrefix network:a network:b zone:c\n",
-    )?;
-    refuse(
-        &rt,
-        alloc,
-        &[SAME_INSIDE],
-        "fault SamePrefix network:a network:b router:r1\n",
-    )?;
-    Ok(())
-}
 
 // ---- a small site: an ASA and an IOS router, a translated office, a dmz and a link inside the internet's prefix
 
@@ -277,13 +218,87 @@ interface Gi0/1
  ip access-group Gi0/1_in in
 ";
 
+static SEEN: [Case; 2] = [
+    // A translated network is seen by its tag.
+    Case {
+        files: &[("p", &[TRANSLATED])],
+        text: "networks 2\nzones 2\nrouters 1\npermits 1\nlocal 0\nlines 4\nroutes 0\n",
+        held: &[("r1", TRANSLATED_FILE)],
+        ..CASE
+    },
+    // A translated host is seen by its offset.
+    Case {
+        files: &[("p", &[WEB])],
+        text: "networks 2\nzones 2\nrouters 1\npermits 1\nlocal 0\nlines 4\nroutes 0\n",
+        held: &[("r1", WEB_FILE)],
+        ..CASE
+    },
+];
+
 #[test]
-fn a_small_site(rt: HostRuntime) -> Result<(), Fail> {
-    let wanted = Wanted {
-        status: 0,
+fn lists_speak_the_addresses_of_their_zone(rt: HostRuntime) -> Result<(), Fail> {
+    check_all(&rt, rt.alloc(), &SEEN)?;
+    Ok(())
+}
+
+static APART: [Case; 1] = [
+    // Two networks of one prefix are told apart by tags.
+    Case {
+        files: &[("p", &[TWINS])],
+        text: "networks 3\nzones 3\nrouters 2\npermits 1\nlocal 0\nlines 8\nroutes 0\n",
+        held: &[("r1", TWINS_R1), ("r2", TWINS_R2)],
+        ..CASE
+    },
+];
+
+#[test]
+fn two_networks_of_one_prefix_are_told_apart_by_tags(rt: HostRuntime) -> Result<(), Fail> {
+    check_all(&rt, rt.alloc(), &APART)?;
+    Ok(())
+}
+
+static ONE_PREFIX: [Case; 3] = [
+    // Two networks of one prefix.
+    Case {
+        files: &[("p", &[SAME])],
+        status: 1,
+        text: "fault SamePrefix network:a network:b zone:a\n",
+        ..CASE
+    },
+    // Two networks of one prefix in a zone that nothing joins: no tag is in force there.
+    Case {
+        files: &[("p", &[TWINS, ALONE])],
+        status: 1,
+        text: "fault SamePrefix network:a network:b zone:c\n",
+        ..CASE
+    },
+    // Two networks of one prefix inside a router: it binds both tags, so that neither is in force inside.
+    Case {
+        files: &[("p", &[SAME_INSIDE])],
+        status: 1,
+        text: "fault SamePrefix network:a network:b router:r1\n",
+        ..CASE
+    },
+];
+
+#[test]
+fn two_networks_of_one_prefix_are_refused(rt: HostRuntime) -> Result<(), Fail> {
+    check_all(&rt, rt.alloc(), &ONE_PREFIX)?;
+    Ok(())
+}
+
+static SMALL_SITE: [Case; 1] = [
+    // A small site.
+    Case {
+        files: &[("p", &[SITE, SITE_RULES])],
         text: "networks 4\nzones 4\nrouters 2\npermits 6\nlocal 0\nlines 24\nroutes 0\n",
         held: &[("fw", SITE_FW), ("edge", SITE_EDGE)],
-    };
-    check(&rt, rt.alloc(), &[SITE, SITE_RULES], &wanted)?;
+        ..CASE
+    },
+];
+
+#[test]
+fn a_small_site(rt: HostRuntime) -> Result<(), Fail> {
+    check_all(&rt, rt.alloc(), &SMALL_SITE)?;
     Ok(())
 }

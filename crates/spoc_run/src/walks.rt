@@ -1,5 +1,5 @@
 // Whole runs over several routers, with lists that were worked out by hand.
-use crate::rows::{Wanted, check};
+use crate::cases::{CASE, Case, check_all};
 use std::test::Fail;
 
 // ---- one walk is a chain of three routers, the other one router
@@ -99,22 +99,6 @@ interface E2
  ip access-group E2_in in
 ";
 
-#[test]
-fn a_restriction_over_three_routers(rt: HostRuntime) -> Result<(), Fail> {
-    let wanted = Wanted {
-        status: 0,
-        text: "networks 4\nzones 4\nrouters 4\npermits 2\nlocal 0\nlines 11\nroutes 0\n",
-        held: &[
-            ("r1", THREE_R1),
-            ("r2", THREE_R2),
-            ("r3", THREE_R3),
-            ("r4", THREE_R4),
-        ],
-    };
-    check(&rt, rt.alloc(), &[RING, THREE_MEMBERS], &wanted)?;
-    Ok(())
-}
-
 // The first restriction forbids the walk through r1 and r2 from a to c, and the second one that
 // from a to d through r1, r2 and r3; r2's interface at c is a member of both.
 const SHARED_MEMBER: &str = "\
@@ -164,22 +148,6 @@ interface E2
  ip access-group E2_in in
 ";
 
-#[test]
-fn two_restrictions_that_share_a_member(rt: HostRuntime) -> Result<(), Fail> {
-    let wanted = Wanted {
-        status: 0,
-        text: "networks 4\nzones 4\nrouters 4\npermits 1\nlocal 0\nlines 10\nroutes 0\n",
-        held: &[
-            ("r1", SHARED_R1),
-            ("r2", THREE_R2),
-            ("r3", SHARED_R3),
-            ("r4", SHARED_R4),
-        ],
-    };
-    check(&rt, rt.alloc(), &[RING, SHARED_MEMBER], &wanted)?;
-    Ok(())
-}
-
 // ---- three interfaces of one router in one zone
 
 const THREE_DOORS: &str = "\
@@ -226,17 +194,6 @@ interface E4
  ip access-group E4_in in
 ";
 
-#[test]
-fn three_interfaces_in_one_zone(rt: HostRuntime) -> Result<(), Fail> {
-    let wanted = Wanted {
-        status: 0,
-        text: "networks 4\nzones 2\nrouters 1\npermits 1\nlocal 0\nlines 8\nroutes 0\n",
-        held: &[("r1", THREE_DOORS_FILE)],
-    };
-    check(&rt, rt.alloc(), &[THREE_DOORS], &wanted)?;
-    Ok(())
-}
-
 // ---- two routers between two zones, one of which keeps state
 
 const TWO_ROUTERS: &str = "\
@@ -282,17 +239,6 @@ interface E1
 interface E2
  ip access-group E2_in in
 ";
-
-#[test]
-fn two_routers_between_two_zones(rt: HostRuntime) -> Result<(), Fail> {
-    let wanted = Wanted {
-        status: 0,
-        text: "networks 2\nzones 2\nrouters 2\npermits 1\nlocal 0\nlines 7\nroutes 0\n",
-        held: &[("r1", TWO_R1), ("r2", TWO_R2)],
-    };
-    check(&rt, rt.alloc(), &[TWO_ROUTERS], &wanted)?;
-    Ok(())
-}
 
 // ---- a router before a loop
 
@@ -388,10 +334,75 @@ interface E2
  ip access-group E2_in in
 ";
 
+static THREE_ROUTERS: [Case; 1] = [
+    // A restriction over three routers.
+    Case {
+        files: &[("p", &[RING, THREE_MEMBERS])],
+        text: "networks 4\nzones 4\nrouters 4\npermits 2\nlocal 0\nlines 11\nroutes 0\n",
+        held: &[
+            ("r1", THREE_R1),
+            ("r2", THREE_R2),
+            ("r3", THREE_R3),
+            ("r4", THREE_R4),
+        ],
+        ..CASE
+    },
+];
+
 #[test]
-fn both_ways_round_a_loop(rt: HostRuntime) -> Result<(), Fail> {
-    let wanted = Wanted {
-        status: 0,
+fn a_restriction_over_three_routers(rt: HostRuntime) -> Result<(), Fail> {
+    check_all(&rt, rt.alloc(), &THREE_ROUTERS)?;
+    Ok(())
+}
+
+static SHARED: [Case; 1] = [
+    // Two restrictions that share a member.
+    Case {
+        files: &[("p", &[RING, SHARED_MEMBER])],
+        text: "networks 4\nzones 4\nrouters 4\npermits 1\nlocal 0\nlines 10\nroutes 0\n",
+        held: &[
+            ("r1", SHARED_R1),
+            ("r2", THREE_R2),
+            ("r3", SHARED_R3),
+            ("r4", SHARED_R4),
+        ],
+        ..CASE
+    },
+];
+
+#[test]
+fn two_restrictions_that_share_a_member(rt: HostRuntime) -> Result<(), Fail> {
+    check_all(&rt, rt.alloc(), &SHARED)?;
+    Ok(())
+}
+
+static TWO_ZONES: [Case; 2] = [
+    // Three interfaces in one zone.
+    Case {
+        files: &[("p", &[THREE_DOORS])],
+        text: "networks 4\nzones 2\nrouters 1\npermits 1\nlocal 0\nlines 8\nroutes 0\n",
+        held: &[("r1", THREE_DOORS_FILE)],
+        ..CASE
+    },
+    // Two routers between two zones.
+    Case {
+        files: &[("p", &[TWO_ROUTERS])],
+        text: "networks 2\nzones 2\nrouters 2\npermits 1\nlocal 0\nlines 7\nroutes 0\n",
+        held: &[("r1", TWO_R1), ("r2", TWO_R2)],
+        ..CASE
+    },
+];
+
+#[test]
+fn several_ways_between_two_zones(rt: HostRuntime) -> Result<(), Fail> {
+    check_all(&rt, rt.alloc(), &TWO_ZONES)?;
+    Ok(())
+}
+
+static ROUND: [Case; 1] = [
+    // Both ways round a loop.
+    Case {
+        files: &[("p", &[LOOP])],
         text: "networks 4\nzones 4\nrouters 4\npermits 1\nlocal 0\nlines 16\nroutes 0\n",
         held: &[
             ("r1", LOOP_R1),
@@ -399,7 +410,12 @@ fn both_ways_round_a_loop(rt: HostRuntime) -> Result<(), Fail> {
             ("r3", LOOP_R3),
             ("r0", LOOP_R0),
         ],
-    };
-    check(&rt, rt.alloc(), &[LOOP], &wanted)?;
+        ..CASE
+    },
+];
+
+#[test]
+fn both_ways_round_a_loop(rt: HostRuntime) -> Result<(), Fail> {
+    check_all(&rt, rt.alloc(), &ROUND)?;
     Ok(())
 }

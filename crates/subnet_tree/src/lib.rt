@@ -5,8 +5,6 @@
 mod fail;
 mod nodes;
 mod order;
-#[cfg(test)]
-mod tests;
 mod tree;
 
 pub use fail::TreeFail;

@@ -6,3 +6,4 @@ pub mod Written
 pub mod Slicing
 pub mod Whole
 pub mod Mentions
+pub mod Spelled

@@ -4,7 +4,7 @@ use Rattle.std.specs.Prelude.{flat_map}
 use Rattle.std.specs.List.{All, Contains, AllByRecursion}
 use Rattle.std.proofs.lemmas.List.{get_or_default}
 use Rattle.std.proofs.lemmas.List.Elements.{All-from_recursion, recursion_from_All}
-use Rattle.spoc_ast.specs.Written.{Lexeme, PortText, SetText, NoParts, NetworkNamed, HostNamed, PortNamed, GroupNamed, AggregateNamed, AreaNamed, UserNamed, NetworksIn, HostsIn, ZonesIn, Joining, Keeping, Leaving, NetPartText, NetIp, NetHost, NetNat, NetIdle, IfPartText, IfIp, IfHardware, IfBindNat, IfIdle, RoutPartText, RoutManaged, RoutModel, RoutRouting, RoutIface, RoutIdle, AreaPartText, AreaAnchor, AreaBorder, AreaIdle, AnyPartText, AnyLink, AnyIp, AnyIdle, PrtText, PrtSimple, PrtProtocol, PrtGroup, RuleText, DeclText, NetworkDecl, RouterDecl, GroupDecl, AreaDecl, AggregateDecl, ProtocolDecl, ProtocolGroupDecl, RestrictionDecl, ServiceDecl}
+use Rattle.spoc_ast.specs.Written.{Lexeme, PortText, SetText, NoParts, NetworkNamed, HostNamed, PortNamed, GroupNamed, AggregateNamed, AreaNamed, UserNamed, NetworksIn, HostsIn, ZonesIn, Joining, Keeping, Leaving, NetPartText, NetIp, NetHost, NetNat, NetIdle, IfPartText, IfIp, IfHardware, IfBindNat, IfVirtual, IfIdle, RoutPartText, RoutManaged, RoutModel, RoutRouting, RoutIface, RoutIdle, AreaPartText, AreaAnchor, AreaBorder, AreaIdle, AnyPartText, AnyLink, AnyIp, AnyIdle, PrtText, PrtSimple, PrtProtocol, PrtGroup, RuleText, DeclText, NetworkDecl, RouterDecl, GroupDecl, AreaDecl, AggregateDecl, ProtocolDecl, ProtocolGroupDecl, RestrictionDecl, ServiceDecl}
 use Rattle.policy_decls.specs.Lookup.{hardware_in, ifaces_in_part, ifaces_in, is_managed_router}
 use Rattle.policy_decls.specs.Names.{Mention, mention, mention_port, TagName, names_in_net_part, names_in_rout_part, names_in}
 use Rattle.policy_decls.specs.Uses.{uses_in_set, uses_in_prt, uses_in_if_part, uses_in_rout_part, uses_in_area_part, uses_in_any_part, uses_in_rule, uses_in_objects, uses_in}
@@ -94,6 +94,7 @@ module _ (S : Lexeme → Type 0) where
   if_part_uses (IfIp address) h = tt
   if_part_uses (IfHardware hardware) h = tt
   if_part_uses (IfBindNat tags) h = tags_shown tags h
+  if_part_uses (IfVirtual parts) h = tt
   if_part_uses (IfIdle idle) h = tt
 
   rout_part_uses : (part : RoutPartText) → Each (router_words part) → Shown (uses_in_rout_part part)
@@ -145,6 +146,7 @@ module _ (S : Lexeme → Type 0) where
   hardware_of (IfIp address) h = tt
   hardware_of (IfHardware hardware) h = h
   hardware_of (IfBindNat tags) h = tt
+  hardware_of (IfVirtual parts) h = tt
   hardware_of (IfIdle idle) h = tt
 
   iface_of : (router : Lexeme) (managed : Bool) → S router → (part : RoutPartText) → Each (router_words part) → AllByRecursion (IsIfaceOf S) (ifaces_in_part router managed part)

@@ -11,6 +11,7 @@ use Rattle.spoc_ast.specs.declared.decl.File.{File}
 use Rattle.spoc_ast.specs.declared.decl.HostPart.TheVariants as HostParts
 use Rattle.spoc_ast.specs.declared.decl.NatPart.TheVariants as NatParts
 use Rattle.spoc_ast.specs.declared.decl.NetPart.TheVariants as NetParts
+use Rattle.spoc_ast.specs.declared.decl.VirtPart.TheVariants as VirtParts
 use Rattle.spoc_ast.specs.declared.decl.IfPart.TheVariants as IfParts
 use Rattle.spoc_ast.specs.declared.decl.RoutPart.TheVariants as RoutParts
 use Rattle.spoc_ast.specs.declared.decl.AreaPart.TheVariants as AreaParts
@@ -18,13 +19,13 @@ use Rattle.spoc_ast.specs.declared.decl.AnyPart.TheVariants as AnyParts
 use Rattle.spoc_ast.specs.declared.decl.Simple.TheVariants as Simples
 use Rattle.spoc_ast.specs.declared.decl.Prt.TheVariants as Prts
 use Rattle.spoc_ast.specs.declared.decl.Decl.TheVariants as Decls
-use Rattle.spoc_ast.specs.Written.{Lexeme, SetText, NetworkNamed, HostNamed, PortNamed, GroupNamed, AggregateNamed, AreaNamed, NetworksIn, HostsIn, ZonesIn, HostIp, HostRange, HostIdle, NatIp, NetIp, NetHost, NetNat, NetIdle, IfIp, IfHardware, IfBindNat, IfIdle, RoutManaged, RoutModel, RoutRouting, RoutIface, RoutIdle, AreaAnchor, AreaBorder, AreaIdle, AnyLink, AnyIp, AnyIdle, SimpleTcp, SimpleUdp, SimpleIcmp, SimpleProto, PrtSimple, PrtProtocol, PrtGroup, NetworkDecl, RouterDecl, GroupDecl, AreaDecl, AggregateDecl, ProtocolDecl, ProtocolGroupDecl, RestrictionDecl, ServiceDecl}
-use Rattle.spoc_ast.specs.Seen.{word_seen, port_seen, set_seen, inter_seen, term_seen, idle_seen, host_part_seen, nat_part_seen, net_part_seen, if_part_seen, rout_part_seen, area_part_seen, any_part_seen, simple_seen, prt_seen, rule_seen, decl_seen, file_seen, joined, narrowed, narrowing}
+use Rattle.spoc_ast.specs.Written.{Lexeme, SetText, NetworkNamed, HostNamed, PortNamed, GroupNamed, AggregateNamed, AreaNamed, NetworksIn, HostsIn, ZonesIn, HostIp, HostRange, HostIdle, NatIp, NatHidden, NetIp, NetHost, NetNat, NetIdle, VirtIp, VirtKind, VirtId, IfIp, IfHardware, IfBindNat, IfVirtual, IfIdle, RoutManaged, RoutModel, RoutRouting, RoutIface, RoutIdle, AreaAnchor, AreaBorder, AreaIdle, AnyLink, AnyIp, AnyIdle, SimpleTcp, SimpleUdp, SimpleIcmp, SimpleProto, PrtSimple, PrtProtocol, PrtGroup, NetworkDecl, RouterDecl, GroupDecl, AreaDecl, AggregateDecl, ProtocolDecl, ProtocolGroupDecl, RestrictionDecl, ServiceDecl}
+use Rattle.spoc_ast.specs.Seen.{word_seen, port_seen, set_seen, inter_seen, term_seen, idle_seen, host_part_seen, nat_part_seen, net_part_seen, virt_part_seen, if_part_seen, rout_part_seen, area_part_seen, any_part_seen, simple_seen, prt_seen, rule_seen, decl_seen, file_seen, joined, narrowed, narrowing}
 use Rattle.spoc_ast.proofs.Rows.{sets, parts}
-use Rattle.spoc_parser.specs.Trees.{network, host, port, group, aggregate, area, user, nets, hosts, anys, host_ip, host_range, host_idle, nat_ip, net_ip, net_host, net_nat, net_idle, iface_ip, iface_hardware, iface_bind_nat, iface_idle, router_managed, router_model, router_routing, router_iface, router_idle, area_anchor, area_border, area_idle, any_link, any_ip, any_idle, proto_ip, proto_tcp, proto_udp, proto_icmp, proto_number, one_proto, a_protocol, a_protogroup, network_decl, router_decl, group_decl, area_decl, aggregate_decl, protocol_decl, protogroup_decl, restriction_decl, service_decl, DeclIn}
+use Rattle.spoc_parser.specs.Trees.{network, host, port, group, aggregate, area, user, nets, hosts, anys, host_ip, host_range, host_idle, nat_ip, nat_hidden, net_ip, net_host, net_nat, net_idle, virt_ip, virt_kind, virt_id, iface_ip, iface_hardware, iface_bind_nat, iface_virtual, iface_idle, router_managed, router_model, router_routing, router_iface, router_idle, area_anchor, area_border, area_idle, any_link, any_ip, any_idle, proto_ip, proto_tcp, proto_udp, proto_icmp, proto_number, one_proto, a_protocol, a_protogroup, network_decl, router_decl, group_decl, area_decl, aggregate_decl, protocol_decl, protogroup_decl, restriction_decl, service_decl, DeclIn}
 use Rattle.spoc_parser.specs.Seen.{IsWord, IsPort, IsPerhaps, IsTermOf, IsFurther, IsInter, IsSet, IsSetIn}
-use Rattle.spoc_parser.specs.SeenParts.{IsIdle, IsHostItem, IsNatItem, IsNetItem, IsIfaceItem, IsRouterItem, IsAreaItem, IsAnyItem, IsProto, IsProtoItem, IsRule, IsDecl}
-use Rattle.syntax_laws.specs.Said.{lexeme_said, port_said, term_said, further_said, inter_said, parts_said, set_said, idle_said, host_item_said, nat_item_said, net_item_said, iface_item_said, router_item_said, area_item_said, any_item_said, proto_said, proto_item_said, rule_said, decl_of_said, decl_said, decls_said}
+use Rattle.spoc_parser.specs.SeenParts.{IsIdle, IsHostItem, IsNatItem, IsNetItem, IsVirtItem, IsIfaceItem, IsRouterItem, IsAreaItem, IsAnyItem, IsProto, IsProtoItem, IsRule, IsDecl}
+use Rattle.syntax_laws.specs.Said.{lexeme_said, port_said, term_said, further_said, inter_said, parts_said, set_said, idle_said, host_item_said, nat_item_said, net_item_said, virt_item_said, iface_item_said, router_item_said, area_item_said, any_item_said, proto_said, proto_item_said, rule_said, decl_of_said, decl_said, decls_said}
 
 -- ---- values that are the same part by part
 
@@ -111,6 +112,8 @@ host_item_is file item part h = absurd h
 
 nat_item_is : (file : ℕ) → Same (IsNatItem file) nat_part_seen (nat_item_said file)
 nat_item_is file (nat_ip prefix) (NatParts.Ip w) h = ap NatIp (word_is file prefix w h)
+nat_item_is file nat_hidden NatParts.Hidden h = refl
+nat_item_is file item part h = absurd h
 
 net_item_is : (file : ℕ) → Same (IsNetItem file) net_part_seen (net_item_said file)
 net_item_is file (net_ip prefix) (NetParts.Ip w) h = ap NetIp (word_is file prefix w h)
@@ -119,10 +122,17 @@ net_item_is file (net_nat tag items) (NetParts.Nat w ps) h = two NetNat (word_is
 net_item_is file (net_idle item) (NetParts.Idle idle) h = ap NetIdle (idle_is file item idle h)
 net_item_is file item part h = absurd h
 
+virt_item_is : (file : ℕ) → Same (IsVirtItem file) virt_part_seen (virt_item_said file)
+virt_item_is file (virt_ip address) (VirtParts.Ip w) h = ap VirtIp (word_is file address w h)
+virt_item_is file (virt_kind word) (VirtParts.Kind w) h = ap VirtKind (word_is file word w h)
+virt_item_is file (virt_id number) (VirtParts.Id w) h = ap VirtId (word_is file number w h)
+virt_item_is file item part h = absurd h
+
 iface_item_is : (file : ℕ) → Same (IsIfaceItem file) if_part_seen (iface_item_said file)
 iface_item_is file (iface_ip address) (IfParts.Ip w) h = ap IfIp (word_is file address w h)
 iface_item_is file (iface_hardware word) (IfParts.Hardware w) h = ap IfHardware (word_is file word w h)
 iface_item_is file (iface_bind_nat tags) (IfParts.BindNat ws) h = ap IfBindNat (maps (word_is file) tags ws.now h)
+iface_item_is file (iface_virtual items) (IfParts.Virtual ps) h = ap IfVirtual (maps (virt_item_is file) items ps.now h)
 iface_item_is file (iface_idle item) (IfParts.Idle idle) h = ap IfIdle (idle_is file item idle h)
 iface_item_is file item part h = absurd h
 
@@ -161,8 +171,9 @@ proto_item_is file (a_protogroup name) (Prts.Group w) h = ap PrtGroup (word_is f
 proto_item_is file item prt h = absurd h
 
 rule_is : {S : Type 0} (file : ℕ) {R : S → SetTree → Type 0} {says : S → SetText} → Same R set_seen says → Same (IsRule file R) rule_seen (rule_said file says)
-rule_is file s rule tree h =
-    three (λ src dst prts. record { src = src; dst = dst; prts = prts }) (s rule.src tree.src h.0) (s rule.dst tree.dst h.1) (maps (proto_item_is file) rule.prts tree.prts.now h.2)
+rule_is file {says = says} s rule tree h =
+    two (λ deny src. record { deny = deny; src = src; dst = set_seen tree.dst; prts = map prt_seen tree.prts.now }) h.0 (s rule.src tree.src h.1)
+    ∙ two (λ dst prts. record { deny = rule.deny; src = says rule.src; dst = dst; prts = prts }) (s rule.dst tree.dst h.2) (maps (proto_item_is file) rule.prts tree.prts.now h.3)
 
 -- ---- declarations
 

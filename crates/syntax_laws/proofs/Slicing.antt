@@ -11,13 +11,13 @@ use Rattle.spoc_lexer.proofs.Slices.{tokens_are_parts}
 use Rattle.spoc_parser.specs.declared.forms.Form.{Form}
 use Rattle.spoc_parser.specs.declared.forms.Form.TheVariants.{Any, Name, Address, Prefix, Number, Range, Ports, Icmp, Filter, Routing, Note, ListKey, ValueKey, Flag}
 use Rattle.spoc_parser.specs.Trees as trees
-use Rattle.spoc_parser.specs.Trees.{PortItem, IdleItem, TermOf, network, host, port, group, aggregate, area, user, nets, hosts, anys, InterOf, SetOf, SetIn, HostItem, host_ip, host_range, host_idle, NatItem, nat_ip, NetItem, net_ip, net_host, net_nat, net_idle, IfaceItem, iface_ip, iface_hardware, iface_bind_nat, iface_idle, RouterItem, router_managed, router_model, router_routing, router_iface, router_idle, AreaItem, area_anchor, area_border, area_idle, AnyItem, any_link, any_ip, any_idle, Proto, proto_ip, proto_tcp, proto_udp, proto_icmp, proto_number, ProtoItem, one_proto, a_protocol, a_protogroup, RuleOf, DeclOf, network_decl, router_decl, group_decl, area_decl, aggregate_decl, protocol_decl, protogroup_decl, restriction_decl, service_decl, DeclIn}
+use Rattle.spoc_parser.specs.Trees.{PortItem, IdleItem, TermOf, network, host, port, group, aggregate, area, user, nets, hosts, anys, InterOf, SetOf, SetIn, HostItem, host_ip, host_range, host_idle, NatItem, nat_ip, nat_hidden, NetItem, net_ip, net_host, net_nat, net_idle, VirtItem, virt_ip, virt_kind, virt_id, IfaceItem, iface_ip, iface_hardware, iface_bind_nat, iface_virtual, iface_idle, RouterItem, router_managed, router_model, router_routing, router_iface, router_idle, AreaItem, area_anchor, area_border, area_idle, AnyItem, any_link, any_ip, any_idle, Proto, proto_ip, proto_tcp, proto_udp, proto_icmp, proto_number, ProtoItem, one_proto, a_protocol, a_protogroup, RuleOf, DeclOf, network_decl, router_decl, group_decl, area_decl, aggregate_decl, protocol_decl, protogroup_decl, restriction_decl, service_decl, DeclIn}
 use Rattle.spoc_parser.specs.Phrases.{Phrase, ◌then◌, a_word, named, at_port, a_text, spread, single, none_of, listed, word_token, perhaps}
-use Rattle.spoc_parser.specs.Grammar.{SpellsDesc, SpellsIdle, setting, body_with, SpellsHostItem, SpellsNatItem, SpellsNetItem, SpellsIfaceItem, SpellsRouterItem, SpellsAreaItem, SpellsAnyItem, spread_or_none, SpellsProto, SpellsProtoItem, SpellsTermOf, SpellsInter, SpellsSet, SpellsSetIn, SpellsRule, SpellsDecl, SpellsDeclIn, SpellsFile}
+use Rattle.spoc_parser.specs.Grammar.{SpellsDesc, SpellsIdle, setting, body_with, SpellsHostItem, SpellsNatItem, SpellsNetItem, SpellsVirtItem, SpellsIfaceItem, SpellsRouterItem, SpellsAreaItem, SpellsAnyItem, spread_or_none, SpellsProto, SpellsProtoItem, SpellsTermOf, SpellsInter, SpellsSet, SpellsSetIn, SpellsRule, SpellsDecl, SpellsDeclIn, SpellsFile}
 use Rattle.spoc_ast.specs.Written.{Lexeme, SetText}
 use Rattle.spoc_ast.specs.Seen.{narrowing, joined}
-use Rattle.syntax_laws.specs.Said.{lexeme_said, lexemes_said, port_said, term_said, further_said, inter_said, parts_said, set_said, idle_said, host_item_said, nat_item_said, net_item_said, iface_item_said, router_item_said, area_item_said, any_item_said, proto_said, proto_item_said, rule_said, decl_of_said, decl_said, decls_said}
-use Rattle.syntax_laws.specs.WordsIn.{IsSlice, perhaps_in, word_in, port_words, set_words, idle_words, host_words, nat_words, net_words, iface_words, router_words, area_words, any_words, simple_words, prt_words, rule_words, headed, words_in}
+use Rattle.syntax_laws.specs.Said.{lexeme_said, lexemes_said, port_said, term_said, further_said, inter_said, parts_said, set_said, idle_said, host_item_said, nat_item_said, net_item_said, virt_item_said, iface_item_said, router_item_said, area_item_said, any_item_said, proto_said, proto_item_said, rule_said, decl_of_said, decl_said, decls_said}
+use Rattle.syntax_laws.specs.WordsIn.{IsSlice, perhaps_in, word_in, port_words, set_words, idle_words, host_words, nat_words, net_words, virt_words, iface_words, router_words, area_words, any_words, simple_words, prt_words, rule_words, headed, words_in}
 use Rattle.syntax_laws.proofs.Phrases.{Gives, halves, left, right, each, setting_gives, always, then_so, either, where_gives, none_gives, perhaps_gives, many_gives, some_gives, further_gives, listed_gives, listed_open_gives, body_gives}
 
 -- ---- lists of words
@@ -168,6 +168,7 @@ module _ (file : ℕ) (text : List ℕ) where
 
   nat_item_sliced : (item : NatItem) → Sliced (SpellsNatItem item) (nat_words (nat_item_said file item))
   nat_item_sliced (nat_ip prefix) = set_to (codes "ip") Prefix prefix
+  nat_item_sliced nat_hidden = always tt
 
   -- a name, and the words of the parts behind it
   with_name : {phrase : Phrase} {Q : Type 0} (kind : List ℕ) (name : trees.Lexeme) → Gives (IsPart text) phrase Q → Gives (IsPart text) (named kind name then phrase) (Own name × Q)
@@ -179,10 +180,16 @@ module _ (file : ℕ) (text : List ℕ) where
   net_item_sliced (net_nat tag parts) = with_name (codes "nat:") tag (then_so (flat (IsSlice file text) nat_words (nat_item_said file) parts) (body_gives nat_item_sliced parts))
   net_item_sliced (net_idle idle) = idle_sliced idle
 
+  virt_item_sliced : (item : VirtItem) → Sliced (SpellsVirtItem item) (virt_words (virt_item_said file item))
+  virt_item_sliced (virt_ip address) = set_to (codes "ip") Address address
+  virt_item_sliced (virt_kind word) = set_to (codes "type") Any word
+  virt_item_sliced (virt_id number) = set_to (codes "id") Number number
+
   iface_item_sliced : (item : IfaceItem) → Sliced (SpellsIfaceItem item) (iface_words (iface_item_said file item))
   iface_item_sliced (iface_ip address) = set_to (codes "ip") Address address
   iface_item_sliced (iface_hardware word) = set_to (codes "hardware") Any word
   iface_item_sliced (iface_bind_nat tags) = right (right (left (listed_words Name tags)))
+  iface_item_sliced (iface_virtual parts) = right (then_so (flat (IsSlice file text) virt_words (virt_item_said file) parts) (body_gives virt_item_sliced parts))
   iface_item_sliced (iface_idle idle) = idle_sliced idle
 
   router_item_sliced : (item : RouterItem) → Sliced (SpellsRouterItem item) (router_words (router_item_said file item))

@@ -7,18 +7,18 @@ use Rattle.spoc_lexer.specs.Tokens.{Tok}
 use Rattle.spoc_parser.specs.declared.forms.Form.{Form}
 use Rattle.spoc_parser.specs.declared.forms.Form.TheVariants.{Any, Address, Prefix, Number, Range, Ports, Icmp}
 use Rattle.spoc_parser.specs.Trees as trees
-use Rattle.spoc_parser.specs.Trees.{PortItem, IdleItem, TermOf, network, host, port, group, aggregate, area, user, nets, hosts, anys, InterOf, SetOf, SetIn, HostItem, host_ip, host_range, host_idle, NatItem, nat_ip, NetItem, net_ip, net_host, net_nat, net_idle, IfaceItem, iface_ip, iface_hardware, iface_bind_nat, iface_idle, RouterItem, router_managed, router_model, router_routing, router_iface, router_idle, AreaItem, area_anchor, area_border, area_idle, AnyItem, any_link, any_ip, any_idle, Proto, proto_ip, proto_tcp, proto_udp, proto_icmp, proto_number, ProtoItem, one_proto, a_protocol, a_protogroup, RuleOf, DeclOf, network_decl, router_decl, group_decl, area_decl, aggregate_decl, protocol_decl, protogroup_decl, restriction_decl, service_decl, DeclIn}
+use Rattle.spoc_parser.specs.Trees.{PortItem, IdleItem, TermOf, network, host, port, group, aggregate, area, user, nets, hosts, anys, InterOf, SetOf, SetIn, HostItem, host_ip, host_range, host_idle, NatItem, nat_ip, nat_hidden, NetItem, net_ip, net_host, net_nat, net_idle, VirtItem, virt_ip, virt_kind, virt_id, IfaceItem, iface_ip, iface_hardware, iface_bind_nat, iface_virtual, iface_idle, RouterItem, router_managed, router_model, router_routing, router_iface, router_idle, AreaItem, area_anchor, area_border, area_idle, AnyItem, any_link, any_ip, any_idle, Proto, proto_ip, proto_tcp, proto_udp, proto_icmp, proto_number, ProtoItem, one_proto, a_protocol, a_protogroup, RuleOf, DeclOf, network_decl, router_decl, group_decl, area_decl, aggregate_decl, protocol_decl, protogroup_decl, restriction_decl, service_decl, DeclIn}
 use Rattle.spoc_parser.specs.Texts.{fits, joined}
 use Rattle.spoc_parser.specs.Phrases.{Phrase, a_word, spread, listed, at_port}
-use Rattle.spoc_parser.specs.Grammar.{SpellsHostItem, SpellsNatItem, SpellsNetItem, SpellsIfaceItem, SpellsRouterItem, SpellsAnyItem, spread_or_none, SpellsProto, SpellsProtoItem, SpellsTermOf, SpellsInter, SpellsSet, SpellsSetIn, SpellsRule, SpellsDecl, SpellsDeclIn, SpellsFile, SpellsAreaItem}
+use Rattle.spoc_parser.specs.Grammar.{SpellsHostItem, SpellsNatItem, SpellsNetItem, SpellsVirtItem, SpellsIfaceItem, SpellsRouterItem, SpellsAnyItem, spread_or_none, SpellsProto, SpellsProtoItem, SpellsTermOf, SpellsInter, SpellsSet, SpellsSetIn, SpellsRule, SpellsDecl, SpellsDeclIn, SpellsFile, SpellsAreaItem}
 use Rattle.spoc_ast.specs.Written.{SetText}
 use Rattle.spoc_ast.specs.Seen.{narrowing}
 use Rattle.spoc_ast.specs.Seen as ast
 use Rattle.policy_model.specs.Lists.{is_nothing}
 use Rattle.policy_decls.specs.Numbers.{address_of, prefix_of, range_of, port_pair_of, icmp_of, number_of}
 use Rattle.policy_decls.specs.Numbers as numbers
-use Rattle.policy_decls.specs.Formed.{asks_prefix, is_formed_set, is_formed_host, is_formed_nat, is_formed_net, is_formed_iface, is_formed_router, is_formed_any, is_formed_simple, is_formed_prt, is_formed_rule, is_formed_objects, is_formed, are_formed, is_formed_area}
-use Rattle.syntax_laws.specs.Said.{lexeme_said, lexemes_said, term_said, further_said, inter_said, parts_said, set_said, host_item_said, nat_item_said, net_item_said, iface_item_said, router_item_said, any_item_said, proto_said, proto_item_said, rule_said, decl_of_said, decl_said, decls_said, area_item_said, port_said}
+use Rattle.policy_decls.specs.Formed.{asks_prefix, is_formed_set, is_formed_host, is_formed_nat, is_formed_net, is_formed_virtual, is_formed_iface, is_formed_router, is_formed_any, is_formed_simple, is_formed_prt, is_formed_rule, is_formed_objects, is_formed, are_formed, is_formed_area}
+use Rattle.syntax_laws.specs.Said.{lexeme_said, lexemes_said, term_said, further_said, inter_said, parts_said, set_said, host_item_said, nat_item_said, net_item_said, virt_item_said, iface_item_said, router_item_said, any_item_said, proto_said, proto_item_said, rule_said, decl_of_said, decl_said, decls_said, area_item_said, port_said}
 use Rattle.syntax_laws.specs.Words.{IsWritten}
 use Rattle.syntax_laws.proofs.Numbers.{Has, passes_both, number_has, address_has, prefix_has, range_has, ports_have, icmp_has}
 use Rattle.syntax_laws.proofs.Phrases.{Gives, left, right, each, setting_gives, always, then_so, either, none_gives, perhaps_gives, many_gives, some_gives, listed_open_gives, body_gives, parts_give}
@@ -78,6 +78,7 @@ host_item_formed file (host_idle idle) = always refl
 
 nat_item_formed : (file : ℕ) (item : NatItem) → Passes (SpellsNatItem item) (is_formed_nat (nat_item_said file item))
 nat_item_formed file (nat_ip prefix) = setting_gives (codes "ip") Prefix prefix (prefix_passes prefix)
+nat_item_formed file nat_hidden = always refl
 
 net_item_formed : (file : ℕ) (item : NetItem) → Passes (SpellsNetItem item) (is_formed_net (net_item_said file item))
 net_item_formed file (net_ip prefix) = setting_gives (codes "ip") Prefix prefix (prefix_passes prefix)
@@ -85,10 +86,16 @@ net_item_formed file (net_host name parts) = right (then_so (all_pass is_formed_
 net_item_formed file (net_nat tag parts) = right (then_so (all_pass is_formed_nat (nat_item_said file) parts) (body_gives (nat_item_formed file) parts))
 net_item_formed file (net_idle idle) = always refl
 
+virt_item_formed : (file : ℕ) (item : VirtItem) → Passes (SpellsVirtItem item) (is_formed_virtual (virt_item_said file item))
+virt_item_formed file (virt_ip address) = setting_gives (codes "ip") Address address (address_passes address)
+virt_item_formed file (virt_kind word) = always refl
+virt_item_formed file (virt_id number) = setting_gives (codes "id") Number number (number_passes number)
+
 iface_item_formed : (file : ℕ) (item : IfaceItem) → Passes (SpellsIfaceItem item) (is_formed_iface (iface_item_said file item))
 iface_item_formed file (iface_ip address) = setting_gives (codes "ip") Address address (address_passes address)
 iface_item_formed file (iface_hardware word) = setting_gives (codes "hardware") Any word (filled_passes word)
 iface_item_formed file (iface_bind_nat tags) = always refl
+iface_item_formed file (iface_virtual parts) = right (then_so (all_pass is_formed_virtual (virt_item_said file) parts) (body_gives (virt_item_formed file) parts))
 iface_item_formed file (iface_idle idle) = always refl
 
 router_item_formed : (file : ℕ) (item : RouterItem) → Passes (SpellsRouterItem item) (is_formed_router (router_item_said file item))

@@ -1,8 +1,8 @@
 -- What the declarations of the grammar say.
 use Rattle.std.specs.Prelude.{ℕ, zero, suc, ◌+◌, Bool, List, [], ◌∷◌, length, map, option_map}
-use Rattle.spoc_parser.specs.Trees.{PortItem, IdleItem, TermOf, network, host, port, group, aggregate, area, user, nets, hosts, anys, InterOf, SetOf, SetIn, HostItem, host_ip, host_range, host_idle, NatItem, nat_ip, NetItem, net_ip, net_host, net_nat, net_idle, IfaceItem, iface_ip, iface_hardware, iface_bind_nat, iface_idle, RouterItem, router_managed, router_model, router_routing, router_iface, router_idle, AreaItem, area_anchor, area_border, area_idle, AnyItem, any_link, any_ip, any_idle, Proto, proto_ip, proto_tcp, proto_udp, proto_icmp, proto_number, ProtoItem, one_proto, a_protocol, a_protogroup, RuleOf, DeclOf, network_decl, router_decl, group_decl, area_decl, aggregate_decl, protocol_decl, protogroup_decl, restriction_decl, service_decl, DeclIn}
+use Rattle.spoc_parser.specs.Trees.{PortItem, IdleItem, TermOf, network, host, port, group, aggregate, area, user, nets, hosts, anys, InterOf, SetOf, SetIn, HostItem, host_ip, host_range, host_idle, NatItem, nat_ip, nat_hidden, NetItem, net_ip, net_host, net_nat, net_idle, VirtItem, virt_ip, virt_kind, virt_id, IfaceItem, iface_ip, iface_hardware, iface_bind_nat, iface_virtual, iface_idle, RouterItem, router_managed, router_model, router_routing, router_iface, router_idle, AreaItem, area_anchor, area_border, area_idle, AnyItem, any_link, any_ip, any_idle, Proto, proto_ip, proto_tcp, proto_udp, proto_icmp, proto_number, ProtoItem, one_proto, a_protocol, a_protogroup, RuleOf, DeclOf, network_decl, router_decl, group_decl, area_decl, aggregate_decl, protocol_decl, protogroup_decl, restriction_decl, service_decl, DeclIn}
 use Rattle.spoc_parser.specs.Trees as trees
-use Rattle.spoc_ast.specs.Written.{Lexeme, PortText, SetText, NetworkNamed, HostNamed, PortNamed, GroupNamed, AggregateNamed, AreaNamed, UserNamed, NetworksIn, HostsIn, ZonesIn, IdleText, HostPartText, HostIp, HostRange, HostIdle, NatPartText, NatIp, NetPartText, NetIp, NetHost, NetNat, NetIdle, IfPartText, IfIp, IfHardware, IfBindNat, IfIdle, RoutPartText, RoutManaged, RoutModel, RoutRouting, RoutIface, RoutIdle, AreaPartText, AreaAnchor, AreaBorder, AreaIdle, AnyPartText, AnyLink, AnyIp, AnyIdle, SimpleText, SimpleIp, SimpleTcp, SimpleUdp, SimpleIcmp, SimpleProto, PrtText, PrtSimple, PrtProtocol, PrtGroup, RuleText, DeclText, NetworkDecl, RouterDecl, GroupDecl, AreaDecl, AggregateDecl, ProtocolDecl, ProtocolGroupDecl, RestrictionDecl, ServiceDecl}
+use Rattle.spoc_ast.specs.Written.{Lexeme, PortText, SetText, NetworkNamed, HostNamed, PortNamed, GroupNamed, AggregateNamed, AreaNamed, UserNamed, NetworksIn, HostsIn, ZonesIn, IdleText, HostPartText, HostIp, HostRange, HostIdle, NatPartText, NatIp, NatHidden, NetPartText, NetIp, NetHost, NetNat, NetIdle, VirtPartText, VirtIp, VirtKind, VirtId, IfPartText, IfIp, IfHardware, IfBindNat, IfVirtual, IfIdle, RoutPartText, RoutManaged, RoutModel, RoutRouting, RoutIface, RoutIdle, AreaPartText, AreaAnchor, AreaBorder, AreaIdle, AnyPartText, AnyLink, AnyIp, AnyIdle, SimpleText, SimpleIp, SimpleTcp, SimpleUdp, SimpleIcmp, SimpleProto, PrtText, PrtSimple, PrtProtocol, PrtGroup, RuleText, DeclText, NetworkDecl, RouterDecl, GroupDecl, AreaDecl, AggregateDecl, ProtocolDecl, ProtocolGroupDecl, RestrictionDecl, ServiceDecl}
 use Rattle.spoc_ast.specs.Seen.{narrowing, joined}
 
 -- a word of a file: its place is as long as its bytes
@@ -57,6 +57,7 @@ host_item_said file (host_idle idle) = HostIdle (idle_said file idle)
 
 abbrev pub nat_item_said : ℕ → NatItem → NatPartText
 nat_item_said file (nat_ip prefix) = NatIp (lexeme_said file prefix)
+nat_item_said file nat_hidden = NatHidden
 
 abbrev pub net_item_said : ℕ → NetItem → NetPartText
 net_item_said file (net_ip prefix) = NetIp (lexeme_said file prefix)
@@ -64,10 +65,16 @@ net_item_said file (net_host name parts) = NetHost (lexeme_said file name) (map 
 net_item_said file (net_nat tag parts) = NetNat (lexeme_said file tag) (map (nat_item_said file) parts)
 net_item_said file (net_idle idle) = NetIdle (idle_said file idle)
 
+abbrev pub virt_item_said : ℕ → VirtItem → VirtPartText
+virt_item_said file (virt_ip address) = VirtIp (lexeme_said file address)
+virt_item_said file (virt_kind word) = VirtKind (lexeme_said file word)
+virt_item_said file (virt_id number) = VirtId (lexeme_said file number)
+
 abbrev pub iface_item_said : ℕ → IfaceItem → IfPartText
 iface_item_said file (iface_ip address) = IfIp (lexeme_said file address)
 iface_item_said file (iface_hardware word) = IfHardware (lexeme_said file word)
 iface_item_said file (iface_bind_nat tags) = IfBindNat (lexemes_said file tags)
+iface_item_said file (iface_virtual parts) = IfVirtual (map (virt_item_said file) parts)
 iface_item_said file (iface_idle idle) = IfIdle (idle_said file idle)
 
 abbrev pub router_item_said : ℕ → RouterItem → RoutPartText
@@ -101,7 +108,7 @@ proto_item_said file (a_protogroup name) = PrtGroup (lexeme_said file name)
 
 -- a rule, where a set says so
 abbrev pub rule_said : {S : Type 0} → ℕ → (S → SetText) → RuleOf S → RuleText
-rule_said file says rule = record { src = says rule.src; dst = says rule.dst; prts = map (proto_item_said file) rule.prts }
+rule_said file says rule = record { deny = rule.deny; src = says rule.src; dst = says rule.dst; prts = map (proto_item_said file) rule.prts }
 
 -- a declaration, where a set says so
 abbrev pub decl_of_said : {S : Type 0} → ℕ → (S → SetText) → DeclOf S → DeclText

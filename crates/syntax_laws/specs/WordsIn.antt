@@ -1,6 +1,6 @@
 -- All words of a declaration, and where they stand in the text.
 use Rattle.std.specs.Prelude.{◌≡◌, ◌≤◌, ◌-◌, ℕ, List, [], ◌∷◌, ◌++◌, length, take, drop, flat_map, Option, Some, None}
-use Rattle.spoc_ast.specs.Written.{Lexeme, PortText, SetText, NoParts, NetworkNamed, HostNamed, PortNamed, GroupNamed, AggregateNamed, AreaNamed, UserNamed, NetworksIn, HostsIn, ZonesIn, Joining, Keeping, Leaving, IdleText, HostPartText, HostIp, HostRange, HostIdle, NatPartText, NatIp, NetPartText, NetIp, NetHost, NetNat, NetIdle, IfPartText, IfIp, IfHardware, IfBindNat, IfIdle, RoutPartText, RoutManaged, RoutModel, RoutRouting, RoutIface, RoutIdle, AreaPartText, AreaAnchor, AreaBorder, AreaIdle, AnyPartText, AnyLink, AnyIp, AnyIdle, SimpleText, SimpleIp, SimpleTcp, SimpleUdp, SimpleIcmp, SimpleProto, PrtText, PrtSimple, PrtProtocol, PrtGroup, RuleText, DeclText, NetworkDecl, RouterDecl, GroupDecl, AreaDecl, AggregateDecl, ProtocolDecl, ProtocolGroupDecl, RestrictionDecl, ServiceDecl}
+use Rattle.spoc_ast.specs.Written.{Lexeme, PortText, SetText, NoParts, NetworkNamed, HostNamed, PortNamed, GroupNamed, AggregateNamed, AreaNamed, UserNamed, NetworksIn, HostsIn, ZonesIn, Joining, Keeping, Leaving, IdleText, HostPartText, HostIp, HostRange, HostIdle, NatPartText, NatIp, NatHidden, NetPartText, NetIp, NetHost, NetNat, NetIdle, VirtPartText, VirtIp, VirtKind, VirtId, IfPartText, IfIp, IfHardware, IfBindNat, IfVirtual, IfIdle, RoutPartText, RoutManaged, RoutModel, RoutRouting, RoutIface, RoutIdle, AreaPartText, AreaAnchor, AreaBorder, AreaIdle, AnyPartText, AnyLink, AnyIp, AnyIdle, SimpleText, SimpleIp, SimpleTcp, SimpleUdp, SimpleIcmp, SimpleProto, PrtText, PrtSimple, PrtProtocol, PrtGroup, RuleText, DeclText, NetworkDecl, RouterDecl, GroupDecl, AreaDecl, AggregateDecl, ProtocolDecl, ProtocolGroupDecl, RestrictionDecl, ServiceDecl}
 
 -- The word is the part of the text of that file that its place says.
 pub record IsSlice (file : ℕ) (text : List ℕ) (word : Lexeme) : Type 0 where
@@ -45,6 +45,7 @@ host_words (HostIdle idle) = idle_words idle
 
 abbrev pub nat_words : NatPartText → List Lexeme
 nat_words (NatIp prefix) = prefix ∷ []
+nat_words NatHidden = []
 
 abbrev pub net_words : NetPartText → List Lexeme
 net_words (NetIp prefix) = prefix ∷ []
@@ -52,10 +53,16 @@ net_words (NetHost name parts) = name ∷ flat_map host_words parts
 net_words (NetNat name parts) = name ∷ flat_map nat_words parts
 net_words (NetIdle idle) = idle_words idle
 
+abbrev pub virt_words : VirtPartText → List Lexeme
+virt_words (VirtIp address) = address ∷ []
+virt_words (VirtKind kind) = kind ∷ []
+virt_words (VirtId number) = number ∷ []
+
 abbrev pub iface_words : IfPartText → List Lexeme
 iface_words (IfIp address) = address ∷ []
 iface_words (IfHardware hardware) = hardware ∷ []
 iface_words (IfBindNat tags) = tags
+iface_words (IfVirtual parts) = flat_map virt_words parts
 iface_words (IfIdle idle) = idle_words idle
 
 abbrev pub router_words : RoutPartText → List Lexeme

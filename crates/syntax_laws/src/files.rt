@@ -10,13 +10,15 @@ ghost use Rattle.spoc_parser.specs.SeenFile.{Ran};
 ghost use Rattle.spoc_parser.specs.SeenParts.{IsDecl};
 ghost use Rattle.spoc_parser.specs.Trees.{DeclIn};
 ghost use Rattle.policy_decls.specs.Formed.{are_formed};
+ghost use Rattle.policy_decls.specs.Spelled.{are_spelled};
 ghost use Rattle.syntax_laws.specs.Said.{decls_said};
 ghost use Rattle.syntax_laws.specs.WordsIn.{IsSlice, words_in};
 
 /// The declarations that are read of a text's tokens are well formed, and each of their words is
-/// the part of the text that its place says.
+/// the part of the text that its place says. Their names and their hardware are words.
 pub fn declarations_read_are_formed()
     ensures formed { (file depth : ℕ) (text : List ℕ) (toks rest : List Tok) (decls : List (DeclIn depth)) → tokens_of text ≡ Ok toks → run_of depth toks ≡ Some (decls, rest) → are_formed (decls_said file depth decls) ≡ true }
+    ensures spelled { (file depth : ℕ) (text : List ℕ) (toks rest : List Tok) (decls : List (DeclIn depth)) → tokens_of text ≡ Ok toks → run_of depth toks ≡ Some (decls, rest) → are_spelled (decls_said file depth decls) ≡ true }
     ensures words { (file depth : ℕ) (text : List ℕ) (toks rest : List Tok) (decls : List (DeclIn depth)) → tokens_of text ≡ Ok toks → run_of depth toks ≡ Some (decls, rest) → All (IsSlice file text) (flat_map words_in (decls_said file depth decls)) }
 {}
 

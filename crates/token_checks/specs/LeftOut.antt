@@ -13,11 +13,10 @@ beginnings =
 -- left out where a part begins: behind `{`, `}` or `;`
 abbrev pub part_words : List (List ℕ)
 part_words =
-    codes "hidden" ∷ codes "dynamic" ∷ codes "identity" ∷ codes "virtual" ∷ codes "crypto" ∷ codes "hub" ∷ codes "spoke"
-    ∷ codes "bridged" ∷ codes "unnumbered" ∷ codes "negotiated" ∷ codes "loopback" ∷ codes "vip" ∷ codes "no_in_acl"
-    ∷ codes "std_in_acl" ∷ codes "no_group_code" ∷ codes "filter_only" ∷ codes "log_deny" ∷ codes "inclusive_border"
-    ∷ codes "router_attributes" ∷ codes "nat_in" ∷ codes "nat_out" ∷ codes "deny" ∷ codes "disabled" ∷ codes "disable_at"
-    ∷ codes "policy_distribution_point" ∷ codes "general_permit" ∷ []
+    codes "dynamic" ∷ codes "identity" ∷ codes "crypto" ∷ codes "hub" ∷ codes "spoke" ∷ codes "bridged" ∷ codes "unnumbered"
+    ∷ codes "negotiated" ∷ codes "loopback" ∷ codes "vip" ∷ codes "no_in_acl" ∷ codes "std_in_acl" ∷ codes "no_group_code"
+    ∷ codes "filter_only" ∷ codes "log_deny" ∷ codes "inclusive_border" ∷ codes "router_attributes" ∷ codes "nat_in" ∷ codes "nat_out"
+    ∷ codes "disabled" ∷ codes "disable_at" ∷ codes "policy_distribution_point" ∷ codes "general_permit" ∷ []
 
 -- the parts whose value may be left out
 abbrev pub valued_words : List (List ℕ)

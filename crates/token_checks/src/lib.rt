@@ -5,8 +5,6 @@
 mod nesting;
 mod reach;
 mod signs;
-#[cfg(test)]
-mod tests;
 mod words;
 
 pub use nesting::too_deep;

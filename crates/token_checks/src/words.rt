@@ -19,11 +19,9 @@ const BEGINNINGS: [&str; 6] = [
 ];
 
 // Left out behind `{`, `}` or `;`.
-const PART_WORDS: [&str; 26] = [
-    "hidden",
+const PART_WORDS: [&str; 23] = [
     "dynamic",
     "identity",
-    "virtual",
     "crypto",
     "hub",
     "spoke",
@@ -41,7 +39,6 @@ const PART_WORDS: [&str; 26] = [
     "router_attributes",
     "nat_in",
     "nat_out",
-    "deny",
     "disabled",
     "disable_at",
     "policy_distribution_point",

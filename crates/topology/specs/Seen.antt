@@ -1,5 +1,5 @@
 -- The lists of a policy as the definitions' plain policy.
-use Rattle.std.specs.Prelude.{List, map, Some, option_map}
+use Rattle.std.specs.Prelude.{List, map, option_map}
 use Rattle.spoc_base.specs.Shown.{cidr_of, interval_of, box_of}
 use Rattle.spoc_base.specs.declared.place.Source.{Source}
 use Rattle.policy_model.specs.Policy as plain
@@ -20,7 +20,7 @@ use Rattle.topology.specs.declared.items.Service.{Service}
 use Rattle.topology.specs.declared.items.Parts.{Parts}
 
 abbrev pub net_seen : List Source → Network → plain.Net
-net_seen sources net = record { name = name_at sources net.name; own = cidr_of net.own; nats = map (λ nat. (nat.0.0, Some (cidr_of nat.1))) net.nats.now }
+net_seen sources net = record { name = name_at sources net.name; own = cidr_of net.own; nats = map (λ nat. (nat.0.0, option_map cidr_of nat.1)) net.nats.now }
 
 abbrev pub host_seen : List Source → Host → plain.Host
 host_seen sources host = record { name = name_at sources host.name; net = host.net.0; range = interval_of host.range }
@@ -37,6 +37,7 @@ iface_seen sources iface =
       router = iface.router.0;
       net = iface.net.0;
       addr = option_map (λ a. a.0) iface.addr;
+      shared = option_map (λ a. a.0) iface.shared;
       hardware = text_at sources iface.hardware;
       binds = map (λ tag. tag.0) iface.binds.now;
     }
@@ -57,7 +58,7 @@ abbrev pub aggregate_seen : List Source → Aggregate → plain.Aggregate
 aggregate_seen sources aggregate = record { name = name_at sources aggregate.name; link = aggregate.link.0; only = option_map cidr_of aggregate.only }
 
 abbrev pub rule_seen : Rule → plain.Rule
-rule_seen rule = record { src = expr_of rule.src.now; dst = expr_of rule.dst.now; boxes = map box_of rule.prts.now }
+rule_seen rule = record { deny = rule.deny; src = expr_of rule.src.now; dst = expr_of rule.dst.now; boxes = map box_of rule.prts.now }
 
 abbrev pub service_seen : List Source → Service → plain.Service
 service_seen sources service = record { name = name_at sources service.name; user = expr_of service.user.now; rules = map rule_seen service.rules.now }

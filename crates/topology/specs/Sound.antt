@@ -1,9 +1,12 @@
 -- What each policy in memory keeps, as far as the definitions' plain policy shows it.
-use Rattle.std.specs.Prelude.{◌≡◌, ℕ, ◌<◌, ◌≤◌, ◌^◌, Bool, true, false, not, ◌&&◌, ◌||◌, ◌==◌, nat_lt, nat_le, List, [], ◌∷◌, ◌++◌, length, map, slice_index_or, Option, Some, None, is_some, IsTrue, IfSome}
+use Rattle.std.specs.Prelude.{◌≡◌, ◌≢◌, ℕ, ◌<◌, ◌≤◌, ◌^◌, ◌-◌, Bool, true, false, not, ◌&&◌, ◌||◌, ◌==◌, nat_lt, nat_le, List, [], ◌∷◌, ◌++◌, length, map, take, drop, slice_index_or, Option, Some, None, is_some, IsTrue, IfSome}
 use Rattle.std.specs.List.{list_all, list_any}
 use Rattle.spoc_base.specs.Address.{Cidr, addresses, interval_covers, prefix_holds}
+use Rattle.spoc_base.specs.Spelling.{is_spelled}
 use Rattle.policy_model.specs.Lists.{has, are_distinct, is_nothing}
-use Rattle.policy_model.specs.Policy.{Policy, Rule, Service, ObjectExpr, NoObjects, OneNet, OneHost, OneIface, OfGroup, OfAggregate, OfArea, OfUser, NetsOf, HostsOf, ZonesOf, Joined, Common, Without, net_of, host_of, iface_of, group_of, area_of, aggregate_of, net_at, router_at, is_managed, managed_routers}
+use Rattle.policy_model.specs.Walks.{shared_sets}
+use Rattle.policy_model.specs.PlainRules.{HasPlainRules}
+use Rattle.policy_model.specs.Policy.{Policy, Restriction, Rule, Service, ObjectExpr, NoObjects, OneNet, OneHost, OneIface, OfGroup, OfAggregate, OfArea, OfUser, NetsOf, HostsOf, ZonesOf, Joined, Common, Without, net_of, host_of, iface_of, group_of, area_of, aggregate_of, net_at, router_at, is_managed, managed_routers}
 
 -- The expression names things that are there: an interface of a managed router or one with an address, the user only where there is one, and areas
 -- only inside the brackets of another set.
@@ -93,14 +96,27 @@ pub record IsNumbered (p : Policy) : Type 0 where
 abbrev pub AreDistinct : List (List ℕ) → Type 0
 AreDistinct names = (n m : ℕ) → n < length names → m < length names → slice_index_or names n [] ≡ slice_index_or names m [] → n ≡ m
 
--- No two things of one kind have one name. An interface's is its router's with its network's.
+-- how many restrictions are declared: those before the ones that shared addresses imply
+abbrev pub declared_count : Policy → ℕ
+declared_count p = length p.restrictions - length (shared_sets p)
+
+-- the restrictions that are declared
+abbrev pub declared_restrictions : Policy → List Restriction
+declared_restrictions p = take (declared_count p) p.restrictions
+
+-- the restrictions that shared addresses imply
+abbrev pub implied_restrictions : Policy → List Restriction
+implied_restrictions p = drop (declared_count p) p.restrictions
+
+-- No two things of one kind have one name. An interface's is its router's with its network's. A restriction that a shared address implies has that of an
+-- interface, so it is no restriction's that is declared.
 pub record IsNamed (p : Policy) : Type 0 where
   pub nets : AreDistinct (map (λ x. x.name) p.nets)
   pub hosts : AreDistinct (map (λ x. x.name) p.hosts)
   pub routers : AreDistinct (map (λ x. x.name) p.routers)
   pub ifaces : (i j : ℕ) → i < length p.ifaces → j < length p.ifaces → router_at p i ≡ router_at p j → net_at p i ≡ net_at p j → i ≡ j
   pub tags : AreDistinct (map (λ x. x.name) p.tags)
-  pub restrictions : AreDistinct (map (λ x. x.name) p.restrictions)
+  pub restrictions : AreDistinct (map (λ x. x.name) (declared_restrictions p))
   pub groups : AreDistinct (map (λ x. x.name) p.groups)
   pub areas : AreDistinct (map (λ x. x.name) p.areas)
   pub aggregates : AreDistinct (map (λ x. x.name) p.aggregates)
@@ -128,7 +144,6 @@ pub record IsLimited (p : Policy) : Type 0 where
   pub router_names : IsTrue (list_all (λ x. is_short x.name) p.routers)
   pub hardware_names : IsTrue (list_all (λ x. is_short x.hardware) p.ifaces)
   pub tag_names : IsTrue (list_all (λ x. is_short x.name) p.tags)
-  pub restriction_names : IsTrue (list_all (λ x. is_short x.name) p.restrictions)
   pub group_names : IsTrue (list_all (λ x. is_short x.name) p.groups)
   pub area_names : IsTrue (list_all (λ x. is_short x.name) p.areas)
   pub aggregate_names : IsTrue (list_all (λ x. is_short x.name) p.aggregates)
@@ -159,6 +174,9 @@ pub record IsWellFormed (p : Policy) : Type 0 where
   pub addresses : (i a : ℕ) → i < length p.ifaces → (iface_of p i).addr ≡ Some a → IsTrue (prefix_holds (net_of p (net_at p i)).own a)
   -- no two interfaces of one network have one address
   pub apart : (i j a : ℕ) → i < length p.ifaces → j < length p.ifaces → net_at p i ≡ net_at p j → (iface_of p i).addr ≡ Some a → (iface_of p j).addr ≡ Some a → i ≡ j
+  -- only an interface of a managed router shares an address, which is its network's and no interface's own there
+  pub shared : (i a : ℕ) → i < length p.ifaces → (iface_of p i).shared ≡ Some a →
+      IsTrue (is_managed p (router_at p i)) × IsTrue (prefix_holds (net_of p (net_at p i)).own a) × ((j : ℕ) → j < length p.ifaces → net_at p j ≡ net_at p i → (iface_of p j).addr ≢ Some a)
   -- no two interfaces of a managed router have one hardware
   pub hardware : (i j : ℕ) → i < length p.ifaces → j < length p.ifaces → router_at p i ≡ router_at p j → IsTrue (is_managed p (router_at p i)) →
       (iface_of p i).hardware ≡ (iface_of p j).hardware → i ≡ j
@@ -169,6 +187,25 @@ pub record IsWellFormed (p : Policy) : Type 0 where
   -- an area has an anchor or a border, and its borders are of managed routers
   pub areas : IsTrue (list_all (λ a. (is_some a.anchor || not (is_nothing a.borders)) && list_all (λ i. is_managed p (router_at p i)) a.borders) p.areas)
 
+-- The restrictions are the declared ones, whose names are short, and behind them those that shared addresses imply.
+pub record HasImplied (p : Policy) : Type 0 where
+  pub within : length (shared_sets p) ≤ length p.restrictions
+  pub members : map (λ x. x.members) (implied_restrictions p) ≡ shared_sets p
+  pub names : IsTrue (list_all (λ x. is_short x.name) (declared_restrictions p))
+
+-- Names and hardware are of letters, digits and `_ . : / -`. So no blank stands in them, and no line feed.
+pub record IsSpelled (p : Policy) : Type 0 where
+  pub nets : IsTrue (list_all (λ x. is_spelled x.name) p.nets)
+  pub hosts : IsTrue (list_all (λ x. is_spelled x.name) p.hosts)
+  pub routers : IsTrue (list_all (λ x. is_spelled x.name) p.routers)
+  pub hardware : IsTrue (list_all (λ x. is_spelled x.hardware) p.ifaces)
+  pub tags : IsTrue (list_all (λ x. is_spelled x.name) p.tags)
+  pub restrictions : IsTrue (list_all (λ x. is_spelled x.name) p.restrictions)
+  pub groups : IsTrue (list_all (λ x. is_spelled x.name) p.groups)
+  pub areas : IsTrue (list_all (λ x. is_spelled x.name) p.areas)
+  pub aggregates : IsTrue (list_all (λ x. is_spelled x.name) p.aggregates)
+  pub services : IsTrue (list_all (λ x. is_spelled x.name) p.services)
+
 -- all this together
 pub record IsSound (p : Policy) : Type 0 where
   pub numbered : IsNumbered p
@@ -176,3 +213,6 @@ pub record IsSound (p : Policy) : Type 0 where
   pub named : IsNamed p
   pub limited : IsLimited p
   pub well_formed : IsWellFormed p
+  pub implied : HasImplied p
+  pub plain : HasPlainRules p
+  pub spelled : IsSpelled p

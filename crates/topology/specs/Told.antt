@@ -12,7 +12,7 @@ use Rattle.spoc_base.specs.declared.fault.HopAt.TheVariants.{Next, Direct}
 use Rattle.policy_model.specs.Policy.{Policy, net_of, host_of, router_of, area_of, router_at, net_at}
 use Rattle.policy_model.specs.Zones.{Site, nets_in}
 use Rattle.policy_model.specs.Routes.{NextHop}
-use Rattle.policy_model.specs.FirstFault.{FaultCase, ViewPlace, AtZone, AtRouter, AreaSplit, NatConflict, NatTwice, NatInside, LimitViews, SamePrefix, HostShadowed, IfaceShadowed, ManagedEnd, LimitPermits, NoPath, LimitLines, LimitRoutes, NoHopAddress, AmbiguousHop, no_service}
+use Rattle.policy_model.specs.FirstFault.{FaultCase, ViewPlace, AtZone, AtRouter, AreaSplit, NatConflict, NatTwice, NatInside, LimitViews, SamePrefix, HostShadowed, IfaceShadowed, ManagedEnd, LimitPermits, NoPath, HiddenEnd, LimitLines, LimitRoutes, NoHopAddress, AmbiguousHop, no_service}
 use Rattle.topology.specs.Texts.{LiesIn, text_at, name_span, IsIfaceCalled}
 
 -- The thing is called by its kind and this name, which stands in a source.
@@ -66,12 +66,14 @@ IsTold sources s (SamePrefix n other place) (fault.SamePrefix first second at) =
     IsNetName sources s.policy n first × IsNetName sources s.policy other second × IsPlaceName sources s place at
 IsTold sources s (HostShadowed h other place) (fault.HostShadowed name net at) =
     IsNameOf kind.Host sources (host_of s.policy h).name name × IsNetName sources s.policy other net × IsPlaceName sources s place at
-IsTold sources s (IfaceShadowed i other place) (fault.HostShadowed name net at) =
+IsTold sources s (IfaceShadowed i shared other place) (fault.HostShadowed name net at) =
     IsIfaceName sources s.policy i name × IsNetName sources s.policy other net × IsPlaceName sources s place at
 IsTold sources s (ManagedEnd k i) (fault.ManagedEnd service iface) =
     IsNameOf kind.Service sources (slice_index_or s.policy.services k no_service).name service × IsIfaceName sources s.policy i iface
 IsTold sources s LimitPermits fault.LimitPermits = Unit {0}
 IsTold sources s (NoPath u w) (fault.NoPath src dst) = IsNetName sources s.policy u src × IsNetName sources s.policy w dst
+IsTold sources s (HiddenEnd k u w n z) (fault.HiddenEnd src dst net zone) =
+    IsNetName sources s.policy u src × IsNetName sources s.policy w dst × IsNetName sources s.policy n net × IsZoneName sources s z zone
 IsTold sources s LimitLines fault.LimitLines = Unit {0}
 IsTold sources s LimitRoutes fault.LimitRoutes = Unit {0}
 IsTold sources s (NoHopAddress r n i) (fault.NoHopAddress router net iface) =

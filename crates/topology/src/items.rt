@@ -3,12 +3,13 @@ use spoc_base::{
     Addr, AddrRange, Dialect, IfId, Named, NetId, Prefix, RouterId, Source, Span, TBox, TagId,
 };
 
-/// A network: its own prefix, and the prefix to which each of its tags translates it.
+/// A network: its own prefix, and the prefix to which each of its tags translates it, with none
+/// where the tag hides it.
 #[derive(Clone, Copy)]
 pub struct Network<'a> {
     pub name: Named,
     pub own: Prefix,
-    pub nats: &'a [(TagId, Prefix)],
+    pub nats: &'a [(TagId, Option<Prefix>)],
 }
 
 /// A host, or a range of hosts, of a network.
@@ -33,19 +34,22 @@ pub struct Router {
     pub device: Option<Device>,
 }
 
-/// An interface of a router at a network: its address, its name on the device, and the tags that
-/// it binds. The span of `hardware` is empty where there is none.
+/// An interface of a router at a network: its own address, the address that it shares with other
+/// interfaces of the network, its name on the device, and the tags that it binds. The span of
+/// `hardware` is empty where there is none.
 #[derive(Clone, Copy)]
 pub struct Iface<'a> {
     pub name: Named,
     pub router: RouterId,
     pub net: NetId,
     pub addr: Option<Addr>,
+    pub shared: Option<Addr>,
     pub hardware: Span,
     pub binds: &'a [TagId],
 }
 
-/// Interfaces of which a walk may use one at most.
+/// Interfaces of which a walk may use one at most: a declared restriction, or one that a shared
+/// address implies, which is named by its least member.
 #[derive(Clone, Copy)]
 pub struct Restriction<'a> {
     pub name: Named,
@@ -81,9 +85,11 @@ pub struct Aggregate {
     pub only: Option<Prefix>,
 }
 
-/// A rule of a service: each source may send to each destination what is in one of the boxes.
+/// A rule of a service: each source may send to each destination what is in one of the boxes, or
+/// must not where the rule denies.
 #[derive(Clone, Copy)]
 pub struct Rule<'a> {
+    pub deny: bool,
     pub src: &'a Union<'a>,
     pub dst: &'a Union<'a>,
     pub prts: &'a [TBox],

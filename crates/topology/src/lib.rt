@@ -2,6 +2,7 @@
 #![tactic(auto)]
 
 pub mod items;
+mod rows;
 pub mod sets;
 pub mod topo;
 

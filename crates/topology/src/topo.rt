@@ -1,10 +1,10 @@
 ghost use Rattle.std.specs.Prelude.{◌≡◌, ◌<◌, ℕ, length, map};
 ghost use Rattle.std.proofs.Props.{props};
+ghost use Rattle.spoc_base.proofs.PlainProps.{box_prop, set_prop, unmarked_prop};
 ghost use Rattle.topology.specs.Kept.{IsKept};
-ghost use Rattle.topology.specs.Rows.{AreRows, row_at};
 
 use crate::items::{
-    Aggregate, Area, Group, Host, IfRows, Iface, Network, Parts, Restriction, Router, Service, Tag,
+    Aggregate, Area, Group, Host, Iface, Network, Parts, Restriction, Router, Service, Tag,
 };
 use spoc_base::{HostId, IfId, NetId, RouterId, Span};
 
@@ -14,7 +14,7 @@ use spoc_base::{HostId, IfId, NetId, RouterId, Span};
 #[derive(Clone, Copy)]
 pub struct Topo<'a> {
     parts: Parts<'a>,
-    pub ghost kept: { IsKept parts } by { Prim.hlevel props },
+    pub ghost kept: { IsKept parts } by { Prim.hlevel (props, box_prop, set_prop, unmarked_prop) },
 }
 
 impl<'a> Topo<'a> {
@@ -177,7 +177,7 @@ impl<'a> Topo<'a> {
         requires { r.0 < length (policy_of self).routers }
         ensures { map (λ i. i.0) result.now ≡ ifaces_of (policy_of self.entry) r.0 }
     {
-        row(self.parts.at_router, r.0)
+        self.parts.at_router.row(r.0 as usize)
     }
 
     /// The interfaces at a network, by number.
@@ -185,7 +185,7 @@ impl<'a> Topo<'a> {
         requires { n.0 < length (policy_of self).nets }
         ensures { map (λ i. i.0) result.now ≡ ifaces_at (policy_of self.entry) n.0 }
     {
-        row(self.parts.at_net, n.0)
+        self.parts.at_net.row(n.0 as usize)
     }
 
     /// The bytes of a part of the sources.
@@ -196,18 +196,4 @@ impl<'a> Topo<'a> {
         let source = &self.parts.sources[s.file as usize];
         &source.text.bytes()[s.start as usize..s.end as usize]
     }
-}
-
-// The k-th of some rows.
-fn row<'a>(rows: IfRows<'a>, k: u32) -> &'a [IfId]
-    requires rows { AreRows rows.ids.now rows.ends.now }
-    requires count { k < length rows.ends.now }
-    ensures { result.now ≡ row_at rows.entry.ids.now rows.entry.ends.now k }
-{
-    let k = k as usize;
-    let end = rows.ends[k] as usize;
-    if k == 0 {
-        return &rows.ids[..end];
-    }
-    &rows.ids[rows.ends[k - 1] as usize..end]
 }

@@ -16,7 +16,7 @@ use Rattle.policy_model.specs.Tags.{Views, AreViews, inner_tags}
 use Rattle.topology.specs.Texts.{LiesIn, text_at, name_span}
 use Rattle.topology.specs.Told.{IsNetName, IsZoneName}
 use Rattle.zone_graph.specs.Grouped.{Graph, IsGraphOf}
-use Rattle.zone_laws.proofs.Counted.{counted}
+use Rattle.zone_graph.proofs.Counted.{counted}
 
 pub zone_told : (sources : List Source) (s : Site) (z n : ℕ) (named : Named) (span : Span) → n ≡ slice_index_or (nets_in s z) 0 0 → IsNetName sources s.policy n named → span ≡ name_span named →
     IsZoneName sources s z (Plain kind.Zone span)

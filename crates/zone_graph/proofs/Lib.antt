@@ -1,3 +1,4 @@
+pub mod Counted
 mod Filled
 mod Joining
 mod Labelled

@@ -6,9 +6,11 @@ mod forest;
 pub mod graph;
 mod groups;
 mod labels;
+mod laws;
 pub mod marks;
 pub mod tags;
 
 pub use graph::{ZoneGraph, zones};
+pub use laws::zones_are_counted;
 pub use marks::{Crossing, Link, MarkTable, PairMarks};
 pub use tags::TagTable;

@@ -1,5 +1,5 @@
 use Rattle.box_algebra.specs.Shown.{header_box_of}
-use Rattle.box_algebra.proofs.Inclusion.{covering_result}
+use Rattle.piece_laws.proofs.Inclusion.{covering_result}
 use Rattle.box_algebra.proofs.boxes.covers.Goals as goal
 
 pub returns-clause-inclusion : goal.returns-clause-inclusion

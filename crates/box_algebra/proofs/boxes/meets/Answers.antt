@@ -1,5 +1,5 @@
 use Rattle.box_algebra.specs.Shown.{header_box_of}
-use Rattle.box_algebra.proofs.Inclusion.{meeting_result}
+use Rattle.piece_laws.proofs.Inclusion.{meeting_result}
 use Rattle.box_algebra.proofs.boxes.meets.Goals as goal
 
 pub returns-clause-common : goal.returns-clause-common

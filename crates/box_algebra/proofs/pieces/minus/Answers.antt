@@ -1,8 +1,9 @@
 use Rattle.std.proofs.Common.{◌≡◌, map, sym, subst}
 use Rattle.std.proofs.lemmas.Result.{IfOk-weaker}
-use Rattle.box_algebra.specs.Pieces.{difference, IsDifference}
+use Rattle.spoc_base.specs.Pieces.{difference}
+use Rattle.piece_laws.specs.Differences.{IsDifference}
 use Rattle.box_algebra.specs.Shown.{header_box_of}
-use Rattle.box_algebra.proofs.Differences.{is_difference}
+use Rattle.piece_laws.proofs.Differences.{is_difference}
 use Rattle.box_algebra.proofs.pieces.minus.Goals as goal
 
 pub returns-clause-exact : goal.returns-clause-exact

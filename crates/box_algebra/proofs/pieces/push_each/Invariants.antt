@@ -1,6 +1,6 @@
 use Rattle.std.proofs.Common.{◌≡◌, ◌++◌, map, take}
 use Rattle.spoc_base.specs.Shown.{interval_of, box_of}
-use Rattle.box_algebra.specs.Pieces.{box_between}
+use Rattle.spoc_base.specs.Pieces.{box_between}
 use Rattle.box_algebra.specs.Shown.{header_box_of}
 use Rattle.box_algebra.proofs.pieces.push_each.Given as goal
 

@@ -1,6 +1,6 @@
 use Rattle.std.proofs.Common.{◌≡◌, ◌++◌, map}
 use Rattle.spoc_base.specs.Shown.{box_of}
-use Rattle.box_algebra.specs.Pieces.{kind_left}
+use Rattle.spoc_base.specs.Pieces.{kind_left}
 use Rattle.box_algebra.proofs.Loops.{so_far}
 use Rattle.box_algebra.proofs.pieces.push_kinds.Given as goal
 

@@ -1,6 +1,6 @@
 use Rattle.std.proofs.Common.{map, arith}
 use Rattle.spoc_base.specs.Shown.{box_of}
-use Rattle.box_algebra.specs.Pieces.{other_code}
+use Rattle.spoc_base.specs.Pieces.{other_code}
 use Rattle.box_algebra.proofs.Loops.{nothing_yet, one_more, all_bytes_given}
 use Rattle.box_algebra.proofs.pieces.push_other_codes.Goals as goal
 

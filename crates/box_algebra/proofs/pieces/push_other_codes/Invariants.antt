@@ -1,6 +1,6 @@
 use Rattle.std.proofs.Common.{◌≡◌, ◌++◌, map}
 use Rattle.spoc_base.specs.Shown.{box_of}
-use Rattle.box_algebra.specs.Pieces.{other_code}
+use Rattle.spoc_base.specs.Pieces.{other_code}
 use Rattle.box_algebra.proofs.Loops.{so_far}
 use Rattle.box_algebra.proofs.pieces.push_other_codes.Given as goal
 

@@ -1,6 +1,6 @@
 use Rattle.std.proofs.Common.{◌≡◌, ◌++◌, map}
 use Rattle.spoc_base.specs.Shown.{box_of}
-use Rattle.box_algebra.specs.Pieces.{whole_left}
+use Rattle.spoc_base.specs.Pieces.{whole_left}
 use Rattle.box_algebra.proofs.Loops.{so_far}
 use Rattle.box_algebra.proofs.pieces.push_protocols.Given as goal
 

@@ -1,5 +1,5 @@
-use Rattle.fault_laws.proofs.EachRow.{all_walks_first}
+use Rattle.fault_laws.proofs.EachRow.{walks_first}
 use Rattle.fault_laws.proofs.joined.first_fault_of_walks.Goals as goal
 
 pub returns : goal.returns
-returns c = all_walks_first
+returns c = walks_first

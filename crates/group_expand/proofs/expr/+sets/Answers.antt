@@ -1,5 +1,6 @@
-use Rattle.std.proofs.Common.{◌≡◌, ◌∙◌, map, refl, ap, rules}
-use Rattle.topology.specs.Expressions.{expr_of}
+use Rattle.std.proofs.Common.{◌≡◌, ◌∙◌, map, refl, sym, ap, rules}
+use Rattle.policy_model.specs.Objects.{NetObject, net_of_object, object_set}
+use Rattle.topology.specs.Expressions.{expr_of, term_of}
 use Rattle.topology.specs.View.{policy_of}
 use Rattle.topology.specs.declared.sets.Union.{out-Union}
 use Rattle.topology.specs.declared.sets.Inter.{out-Inter}
@@ -36,3 +37,12 @@ of_union-returns t c =
     if_ok c.list.result (λ found. map object_seen found.items ≡ c.loop-part.found) (λ found. map object_seen found.items ≡ objects_in c.args.scope.now (expr_of c.args.set.now))
     (λ found e. e ∙ items_end (objects_to_come c.args.scope.now) (out-Union c.args.set.now).parts.now c.loop-part.part-index c.loop-part.found _ refl c.loop-part-test.false c.loop-part.invariant.1)
     c.list.ensures
+
+pub of_term-returns-in_ok-inner-in-Nets : goal.of_term-returns-in_ok-inner-in-Nets
+of_term-returns-in_ok-inner-in-Nets t c =
+    let p = policy_of c.args.scope.now.topo in
+    if_ok c.nets_of.result (λ found. map object_seen found.items ≡ object_set (map (λ o. NetObject (net_of_object p o)) (map object_seen c.deref.result.now)))
+    (λ found. map object_seen found.items ≡ objects_in c.args.scope.now (term_of c.args.term.now))
+    (λ found is. is ∙ (ap (λ l. object_set (map (λ o. NetObject (net_of_object p o)) l)) (ap (map object_seen) c.deref.ensures.value ∙ c.in_ok-inner-in-Nets.ensures)
+    ∙ sym (ap (λ e. objects_in c.args.scope.now (term_of e)) c.in-Nets.is)))
+    c.nets_of.ensures

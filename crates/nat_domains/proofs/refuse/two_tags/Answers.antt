@@ -1,5 +1,5 @@
-use Rattle.std.proofs.Common.{◌≡◌, ◌∙◌, ℕ, Some, length, refl, sym, ap, subst, arith}
-use Rattle.std.specs.Prelude.{slice_index, slice_index_or}
+use Rattle.std.proofs.Common.{◌≡◌, ◌∙◌, ℕ, length, refl, sym, ap, subst, arith}
+use Rattle.std.specs.Prelude.{Option, option_map, slice_index, slice_index_or}
 use Rattle.std.proofs.lemmas.List.{length-map}
 use Rattle.spoc_base.specs.Shown.{cidr_of}
 use Rattle.spoc_base.specs.declared.address.Prefix.{Prefix}
@@ -15,7 +15,7 @@ pub returns-then-net-lt2 : goal.returns-then-net-lt2
 returns-then-net-lt2 c =
     let p = policy_of c.args.topo in
     let e : length (net_of p c.args.n.0).nats ≡ length c.net.result.nats.now =
-    ap (λ (net : Net). length net.nats) c.net.ensures.seen ∙ length-map c.net.result.nats.now (λ (nat : TagId × Prefix). (nat.0.0, Some (cidr_of nat.1))) in
+    ap (λ (net : Net). length net.nats) c.net.ensures.seen ∙ length-map c.net.result.nats.now (λ (nat : TagId × Option Prefix). (nat.0.0, option_map cidr_of nat.1)) in
     few_tags p (numbers_of c.args.row.now) c.args.n.0 (omega (arith, e, c.if-net-lt2.true))
 
 pub returns-in_err-first : goal.returns-in_err-first

@@ -8,7 +8,7 @@ use Rattle.policy_build.proofs.entry.build.Goals as goal
 pub build_from-requires : goal.build_from-requires
 build_from-requires c =
     subst (λ l. IsBuildable c.args.sources.now c.args.table.now l) (sym (ap (map decl_seen) c.deref.ensures.value ∙ c.in_ok-decls.ensures))
-    (record { named = c.requires.named; faultless = c.requires.faultless; formed = c.requires.formed; words = c.requires.words })
+    (record { named = c.requires.named; faultless = c.requires.faultless; formed = c.requires.formed; spelled = c.requires.spelled; words = c.requires.words })
 
 pub returns-clause-policy : goal.returns-clause-policy
 returns-clause-policy c =

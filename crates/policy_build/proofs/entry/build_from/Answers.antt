@@ -13,5 +13,5 @@ policy-requires c =
       good = all_good c.args.sources.now decls shape c.requires.formed c.requires.words;
       fair = all_fair decls shape;
       placed = all_placed decls c.requires.formed c.requires.faultless;
-      sound = c.policies_said_are_sound.ensures decls c.requires.formed c.requires.faultless c.in_ok-are_few.ensures;
+      sound = c.policies_said_are_sound.ensures decls c.requires.formed c.requires.spelled c.requires.faultless c.in_ok-are_few.ensures;
     }

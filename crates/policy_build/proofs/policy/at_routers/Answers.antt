@@ -11,4 +11,4 @@ rows-requires c =
 
 pub returns : goal.returns
 returns c =
-    subst (λ l. IfOk c.rows.result (λ rows. HoldsRows rows c.args.count (owned_by l))) (c.deref.ensures.value ∙ c.in_ok-owners.ensures) c.rows.ensures
+    subst (λ l. IfOk c.rows.result (λ rows. HoldsRows rows c.args.count (owned_by l))) (c.deref.ensures.value ∙ c.in_ok-owners.ensures) c.rows.ensures.rows

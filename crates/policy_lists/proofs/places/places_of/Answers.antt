@@ -1,21 +1,28 @@
 use Rattle.std.proofs.Common.{map}
 use Rattle.std.proofs.lemmas.Result.{IfOk-weaker, IfErr-weaker}
 use Rattle.topology.specs.View.{policy_of}
+use Rattle.permit_lines.specs.Given.{site_with}
 use Rattle.permit_set.specs.Shown.{permit_of}
 use Rattle.nat_view.specs.Views.{seen_of}
-use Rattle.rule_distribute.specs.Given.{site_with}
 use Rattle.policy_outcome.specs.Found.{meaning_in}
-use Rattle.policy_lists.proofs.Premises.{zones_sized, are_permits}
+use Rattle.policy_lists.proofs.Premises.{zones_sized, are_known}
 use Rattle.policy_lists.proofs.Interfaces.{placed_from_start}
 use Rattle.policy_lists.proofs.Refusals.{walks_clear, walks_refused}
 use Rattle.policy_lists.proofs.places.places_of.Goals as goal
+
+pub join-requires-clause-zones : goal.join-requires-clause-zones
+join-requires-clause-zones c =
+    let found = c.requires.found in zones_sized (policy_of c.args.viewed.now.topo) c.args.viewed.now.graph.now (seen_of c.args.viewed.now.views.now).views found.zoned.is_graph found.zoned.site found.views
+
+pub join-requires-clause-permits : goal.join-requires-clause-permits
+join-requires-clause-permits c = are_known (policy_of c.args.viewed.now.topo) c.args.viewed.now.topo.kept.sound c.requires.shaped (map permit_of c.args.viewed.now.permits.now) c.requires.found.expanded
 
 pub distribute-requires-clause-zones : goal.distribute-requires-clause-zones
 distribute-requires-clause-zones c =
     let found = c.requires.found in zones_sized (policy_of c.args.viewed.now.topo) c.args.viewed.now.graph.now (seen_of c.args.viewed.now.views.now).views found.zoned.is_graph found.zoned.site found.views
 
 pub distribute-requires-clause-permits : goal.distribute-requires-clause-permits
-distribute-requires-clause-permits c = are_permits (policy_of c.args.viewed.now.topo) c.args.viewed.now.topo.kept.sound c.requires.shaped (map permit_of c.args.viewed.now.permits.now) c.requires.found.expanded
+distribute-requires-clause-permits c = are_known (policy_of c.args.viewed.now.topo) c.args.viewed.now.topo.kept.sound c.requires.shaped (map permit_of c.args.viewed.now.permits.now) c.requires.found.expanded
 
 pub returns-clause-places : goal.returns-clause-places
 returns-clause-places c =

@@ -2,9 +2,9 @@ use Rattle.std.proofs.Common.{◌≡◌, map}
 use Rattle.std.proofs.lemmas.Result.{IfOk-weaker}
 use Rattle.topology.specs.View.{policy_of}
 use Rattle.path_walk.specs.Tables.{table_seen, table_of}
-use Rattle.rule_distribute.specs.Given.{site_with}
+use Rattle.permit_lines.specs.Given.{site_with}
 use Rattle.rule_distribute.specs.Paths.{HaveMarks}
-use Rattle.policy_lists.specs.Marked.{zones_seen}
+use Rattle.rule_distribute.specs.Shown.{zones_seen}
 use Rattle.policy_lists.proofs.Marks.{have_marks}
 use Rattle.policy_lists.proofs.tables.tables_for.Goals as goal
 

@@ -1,6 +1,6 @@
-use Rattle.std.proofs.Common.{◌≡◌, ◌++◌, ◌||◌, [], map, flat_map, drop, not, nat_lt}
-use Rattle.spoc_ast.specs.Seen.{word_seen, rout_part_seen, if_part_seen}
-use Rattle.policy_shapes.specs.Keys.{has_key, word_key, with_keys, clash_known, address_keys, hardware_asked, hardware_keys, tag_key}
+use Rattle.std.proofs.Common.{◌≡◌, [], map, drop}
+use Rattle.spoc_ast.specs.Seen.{word_seen}
+use Rattle.policy_shapes.specs.Keys.{has_key, clash_known, tag_key}
 use Rattle.policy_decls.specs.Shapes as shapes
 use Rattle.policy_shapes.proofs.clash.repeats.Given as goal
 

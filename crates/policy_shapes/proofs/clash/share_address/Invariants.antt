@@ -1,6 +1,6 @@
-use Rattle.std.proofs.Common.{◌≡◌, ◌++◌, ◌||◌, [], map, flat_map, drop, not, nat_lt}
+use Rattle.std.proofs.Common.{◌≡◌, map, flat_map, drop}
 use Rattle.policy_shapes.specs.Seen.{iface_seen}
-use Rattle.policy_shapes.specs.Keys.{has_key, word_key, with_keys, clash_known, address_keys, hardware_asked, hardware_keys, tag_key}
+use Rattle.policy_shapes.specs.Keys.{has_key, with_keys, clash_known, address_keys}
 use Rattle.policy_shapes.proofs.clash.share_address.Given as goal
 
 abbrev pub invariant-loop-iface : goal.invariant-loop-iface

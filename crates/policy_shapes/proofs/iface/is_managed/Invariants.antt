@@ -1,5 +1,5 @@
-use Rattle.std.proofs.Common.{◌≡◌, ◌++◌, ◌||◌, [], map, flat_map, drop, not, nat_lt}
-use Rattle.spoc_ast.specs.Seen.{word_seen, rout_part_seen, if_part_seen}
+use Rattle.std.proofs.Common.{◌≡◌, map, drop}
+use Rattle.spoc_ast.specs.Seen.{rout_part_seen}
 use Rattle.policy_decls.specs.Lookup as plain
 use Rattle.policy_shapes.proofs.iface.is_managed.Given as goal
 

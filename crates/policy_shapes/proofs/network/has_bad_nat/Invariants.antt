@@ -1,6 +1,6 @@
-use Rattle.std.proofs.Common.{◌≡◌, ◌++◌, map, flat_map, drop, not, nat_lt}
-use Rattle.spoc_ast.specs.Seen.{word_seen, net_part_seen, nat_part_seen, host_part_seen}
-use Rattle.policy_shapes.specs.Rows.{has_bad_nat, other_length}
+use Rattle.std.proofs.Common.{◌≡◌, map, drop}
+use Rattle.spoc_ast.specs.Seen.{net_part_seen}
+use Rattle.policy_shapes.specs.Rows.{has_bad_nat}
 use Rattle.policy_shapes.proofs.network.has_bad_nat.Given as goal
 
 abbrev pub invariant-loop-part : goal.invariant-loop-part

@@ -1,9 +1,10 @@
-use Rattle.std.proofs.Common.{◌≡◌, ◌++◌, map, flat_map, drop, not, nat_lt}
+use Rattle.std.proofs.Common.{◌≡◌, map, flat_map, drop}
 use Rattle.std.specs.List.{list_any}
-use Rattle.spoc_ast.specs.Seen.{word_seen, net_part_seen, nat_part_seen, host_part_seen}
+use Rattle.spoc_ast.specs.Seen.{net_part_seen}
+use Rattle.policy_decls.specs.Lookup as plain
 use Rattle.policy_shapes.specs.Seen.{block_seen}
-use Rattle.policy_shapes.specs.Rows.{has_bad_nat, other_length}
+use Rattle.policy_shapes.specs.Rows.{other_length}
 use Rattle.policy_shapes.proofs.network.some_other_length.Given as goal
 
-abbrev pub invariant-loop-word : goal.invariant-loop-word
-invariant-loop-word l = list_any (other_length (block_seen l.own)) (map word_seen (drop l.word-index l.words)) ≡ list_any (other_length (block_seen l.own)) (map word_seen l.words)
+abbrev pub invariant-loop-part : goal.invariant-loop-part
+invariant-loop-part l = list_any (other_length (block_seen l.own)) (flat_map plain.ips_in_nats (map net_part_seen (drop l.part-index l.parts))) ≡ list_any (other_length (block_seen l.own)) (flat_map plain.ips_in_nats (map net_part_seen l.parts))

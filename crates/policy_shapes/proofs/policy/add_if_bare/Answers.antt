@@ -3,5 +3,5 @@ use Rattle.policy_shapes.specs.Seen.{iface_seen}
 use Rattle.policy_shapes.proofs.Bare.{not_bare}
 use Rattle.policy_shapes.proofs.policy.add_if_bare.Goals as goal
 
-pub returns-then-not-branch : goal.returns-then-not-branch
-returns-then-not-branch c = not_bare (iface_seen c.args.iface.now) _ _ (sym c.in_ok-is_bare.ensures) c.if-not-branch.true
+pub returns-then-not-is_bare : goal.returns-then-not-is_bare
+returns-then-not-is_bare c = not_bare (iface_seen c.args.iface.now) _ _ (sym c.is_bare.ensures) c.if-not-is_bare.true

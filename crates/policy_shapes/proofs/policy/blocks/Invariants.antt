@@ -1,7 +1,7 @@
-use Rattle.std.proofs.Common.{◌≡◌, ◌++◌, ◌||◌, [], map, flat_map, drop, not, nat_lt, option_map}
-use Rattle.spoc_ast.specs.Seen.{decl_seen, word_seen, rout_part_seen}
-use Rattle.policy_shapes.specs.Seen.{block_seen, iface_seen}
-use Rattle.policy_shapes.specs.Policy.{own_prefixes, managed_flags, bare_keys}
+use Rattle.std.proofs.Common.{◌≡◌, ◌++◌, map, drop, option_map}
+use Rattle.spoc_ast.specs.Seen.{decl_seen}
+use Rattle.policy_shapes.specs.Seen.{block_seen}
+use Rattle.policy_shapes.specs.Policy.{own_prefixes}
 use Rattle.policy_shapes.proofs.policy.blocks.Given as goal
 
 abbrev pub invariant-loop-decl : goal.invariant-loop-decl

@@ -1,6 +1,6 @@
-use Rattle.std.proofs.Common.{◌≡◌, ◌++◌, ◌||◌, map, flat_map, drop, not, nat_lt}
+use Rattle.std.proofs.Common.{◌≡◌, map, drop}
 use Rattle.std.specs.List.{list_any}
-use Rattle.spoc_ast.specs.Seen.{word_seen, prt_seen}
+use Rattle.spoc_ast.specs.Seen.{prt_seen}
 use Rattle.policy_decls.specs.Shapes as shapes
 use Rattle.policy_shapes.proofs.protocol.any_bad_prt.Given as goal
 

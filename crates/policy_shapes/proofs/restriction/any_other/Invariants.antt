@@ -1,6 +1,6 @@
-use Rattle.std.proofs.Common.{not, ◌≡◌, ◌++◌, ◌||◌, map, flat_map, drop}
+use Rattle.std.proofs.Common.{not, ◌≡◌, map, drop}
 use Rattle.std.specs.List.{list_any}
-use Rattle.spoc_ast.specs.Seen.{set_seen, inter_seen, term_seen, word_seen, port_seen, area_part_seen, any_part_seen, rule_seen, decl_seen}
+use Rattle.spoc_ast.specs.Seen.{port_seen}
 use Rattle.policy_decls.specs.Shapes as shapes
 use Rattle.policy_shapes.proofs.restriction.any_other.Given as goal
 

@@ -1,6 +1,6 @@
-use Rattle.std.proofs.Common.{◌≡◌, ◌+◌, ◌≤◌, ◌++◌, [], length, filter, map, flat_map, drop}
+use Rattle.std.proofs.Common.{◌≡◌, map, drop}
 use Rattle.std.specs.List.{list_any}
-use Rattle.policy_shapes.specs.Seen.{block_seen, iface_seen}
+use Rattle.policy_shapes.specs.Seen.{iface_seen}
 use Rattle.policy_decls.specs.Shapes as shapes
 use Rattle.policy_shapes.proofs.router.any_bad_iface.Given as goal
 

@@ -1,8 +1,9 @@
-use Rattle.std.proofs.Common.{◌≡◌, ◌+◌, ◌≤◌, ◌++◌, [], length, filter, map, flat_map, drop}
+use Rattle.std.proofs.Common.{◌≡◌, map, flat_map, drop}
 use Rattle.std.specs.List.{list_any}
-use Rattle.spoc_ast.specs.Seen.{word_seen, rout_part_seen, decl_seen}
+use Rattle.spoc_ast.specs.Seen.{rout_part_seen}
+use Rattle.policy_decls.specs.Lookup as plain
 use Rattle.policy_decls.specs.Shapes as shapes
 use Rattle.policy_shapes.proofs.router.any_model.Given as goal
 
-abbrev pub invariant-loop-word : goal.invariant-loop-word
-invariant-loop-word l = list_any shapes.is_model (map word_seen (drop l.word-index l.words)) ≡ list_any shapes.is_model (map word_seen l.words)
+abbrev pub invariant-loop-part : goal.invariant-loop-part
+invariant-loop-part l = list_any shapes.is_model (flat_map plain.models_in (map rout_part_seen (drop l.part-index l.parts))) ≡ list_any shapes.is_model (flat_map plain.models_in (map rout_part_seen l.parts))

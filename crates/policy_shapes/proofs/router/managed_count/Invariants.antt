@@ -1,5 +1,5 @@
-use Rattle.std.proofs.Common.{◌≡◌, ◌+◌, ◌≤◌, ◌++◌, [], length, filter, map, flat_map, drop}
-use Rattle.spoc_ast.specs.Seen.{word_seen, rout_part_seen, decl_seen}
+use Rattle.std.proofs.Common.{◌≡◌, ◌+◌, ◌≤◌, length, filter, map, drop}
+use Rattle.spoc_ast.specs.Seen.{rout_part_seen}
 use Rattle.policy_decls.specs.Lookup as plain
 use Rattle.policy_shapes.proofs.router.managed_count.Given as goal
 

@@ -1,8 +1,8 @@
-use Rattle.std.proofs.Common.{◌≡◌, ◌++◌, ◌||◌, map, flat_map, drop}
+use Rattle.std.proofs.Common.{◌≡◌, map, flat_map, drop}
 use Rattle.std.specs.List.{list_any}
-use Rattle.spoc_ast.specs.Seen.{set_seen, inter_seen, term_seen, word_seen, port_seen, area_part_seen, any_part_seen, rule_seen, decl_seen}
+use Rattle.spoc_ast.specs.Seen.{rule_seen, decl_seen}
 use Rattle.policy_decls.specs.Shapes as shapes
-use Rattle.policy_shapes.specs.Sets.{asks_unaligned, names_bare}
+use Rattle.policy_shapes.specs.Sets.{names_bare}
 use Rattle.policy_shapes.proofs.service.rules_name_bare.Given as goal
 
 abbrev pub invariant-loop-rule : goal.invariant-loop-rule

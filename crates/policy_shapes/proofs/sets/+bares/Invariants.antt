@@ -1,7 +1,7 @@
-use Rattle.std.proofs.Common.{◌≡◌, ◌++◌, ◌||◌, map, flat_map, drop}
+use Rattle.std.proofs.Common.{◌≡◌, map, drop}
 use Rattle.std.specs.List.{list_any}
-use Rattle.spoc_ast.specs.Seen.{set_seen, inter_seen, term_seen, word_seen, port_seen, area_part_seen, any_part_seen, rule_seen, decl_seen}
-use Rattle.policy_shapes.specs.Sets.{asks_unaligned, names_bare}
+use Rattle.spoc_ast.specs.Seen.{set_seen, inter_seen, term_seen, decl_seen}
+use Rattle.policy_shapes.specs.Sets.{names_bare}
 use Rattle.policy_shapes.proofs.sets.+bares.Given as goal
 
 abbrev pub invariant-names_bare-loop-part : goal.invariant-names_bare-loop-part

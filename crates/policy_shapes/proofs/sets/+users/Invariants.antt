@@ -1,4 +1,4 @@
-use Rattle.std.proofs.Common.{◌≡◌, ◌++◌, ◌||◌, map, flat_map, drop, not, nat_lt}
+use Rattle.std.proofs.Common.{◌≡◌, map, drop}
 use Rattle.std.specs.List.{list_any}
 use Rattle.spoc_ast.specs.Seen.{set_seen, inter_seen, term_seen}
 use Rattle.policy_decls.specs.Shapes.{says_user}

@@ -1,5 +1,5 @@
-use Rattle.std.proofs.Common.{◌≡◌, ◌++◌, [], map, flat_map, drop}
-use Rattle.spoc_ast.specs.Seen.{decl_seen, file_seen}
+use Rattle.std.proofs.Common.{◌≡◌, ◌++◌, map, drop}
+use Rattle.spoc_ast.specs.Seen.{decl_seen}
 use Rattle.policy_names.specs.Seen.{decls_of}
 use Rattle.policy_shapes.proofs.shapes.all_decls.Given as goal
 

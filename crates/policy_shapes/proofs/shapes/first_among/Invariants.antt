@@ -1,5 +1,5 @@
-use Rattle.std.proofs.Common.{◌≡◌, ◌++◌, [], map, flat_map, drop}
-use Rattle.spoc_ast.specs.Seen.{decl_seen, file_seen}
+use Rattle.std.proofs.Common.{◌≡◌, [], map, drop}
+use Rattle.spoc_ast.specs.Seen.{decl_seen}
 use Rattle.policy_shapes.specs.Keys.{has_key}
 use Rattle.policy_shapes.specs.Rows.{first_by}
 use Rattle.policy_shapes.proofs.shapes.first_among.Given as goal

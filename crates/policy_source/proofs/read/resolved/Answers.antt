@@ -12,3 +12,6 @@ returns-in-Ok-clause-faultless c =
 pub returns-in-Err-clause-refused : goal.returns-in-Err-clause-refused
 returns-in-Err-clause-refused c =
     refused_later (texts_of c.args.sources.now) (decls_of c.args.files.now) c.in-Err.refusal c.requires.faultless c.requires.said c.in-Err.ensures.refused
+
+pub returns-in-Ok-clause-policy : goal.returns-in-Ok-clause-policy
+returns-in-Ok-clause-policy c = c.in-Ok.ensures.policy ∙ ap policy_said c.requires.said

@@ -5,7 +5,7 @@ use Rattle.policy_model.specs.Blocks.{is_joined_pair}
 use Rattle.topology.specs.View.{policy_of}
 use Rattle.nat_view.specs.Views.{seen_of}
 use Rattle.permit_set.specs.Shown.{permit_of}
-use Rattle.rule_distribute.specs.Given.{site_with}
+use Rattle.permit_lines.specs.Given.{site_with}
 use Rattle.rule_distribute.specs.Pairs.{AreOnce}
 use Rattle.rule_distribute.proofs.AllConcerned.{as_long, firsts_are_there, as_nested, none_there, zones_counted, concerned_are, joined_are, kept_all}
 use Rattle.rule_distribute.proofs.concerned.concerned.Goals as goal

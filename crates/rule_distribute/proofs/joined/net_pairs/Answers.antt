@@ -2,7 +2,7 @@ use Rattle.std.proofs.Common.{◌∙◌, sym, subst, map}
 use Rattle.std.proofs.lemmas.List.Folds.{flat_map-map}
 use Rattle.topology.specs.View.{policy_of}
 use Rattle.permit_set.specs.Shown.{permit_of}
-use Rattle.rule_distribute.specs.Given.{site_with}
+use Rattle.permit_lines.specs.Given.{site_with}
 use Rattle.rule_distribute.specs.Pairs.{AreOnce}
 use Rattle.rule_distribute.specs.Rows.{net_arcs}
 use Rattle.rule_distribute.proofs.NetPairs.{net_pairs_are, has_all}

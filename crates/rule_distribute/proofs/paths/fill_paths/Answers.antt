@@ -3,7 +3,7 @@ use Rattle.std.proofs.lemmas.List.{length-map}
 use Rattle.policy_model.specs.Zones.{zone_of}
 use Rattle.topology.specs.View.{policy_of}
 use Rattle.zone_graph.specs.Grouped.{row_items}
-use Rattle.rule_distribute.specs.Given.{site_with}
+use Rattle.permit_lines.specs.Given.{site_with}
 use Rattle.rule_distribute.specs.Rows.{pair_at}
 use Rattle.rule_distribute.proofs.PathRows.{are_low, next_pair, enter_below}
 use Rattle.rule_distribute.proofs.paths.fill_paths.Goals as goal

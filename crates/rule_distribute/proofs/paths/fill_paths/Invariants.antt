@@ -1,7 +1,7 @@
 use Rattle.std.proofs.Common.{◌≡◌, length}
 use Rattle.topology.specs.View.{policy_of}
 use Rattle.zone_graph.specs.Grouped.{HasGroups, row_items}
-use Rattle.rule_distribute.specs.Given.{site_with}
+use Rattle.permit_lines.specs.Given.{site_with}
 use Rattle.rule_distribute.specs.Paths.{path_row}
 use Rattle.rule_distribute.proofs.paths.fill_paths.Given as goal
 

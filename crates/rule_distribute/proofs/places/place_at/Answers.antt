@@ -1,31 +1,46 @@
-use Rattle.std.proofs.Common.{◌∙◌, ◌<◌, ℕ, Bool, List, length, map, subst, sym, ap, arith}
+use Rattle.std.proofs.Common.{◌≡◌, ◌∙◌, ◌<◌, ℕ, Bool, List, length, map, subst, sym, ap, arith}
+use Rattle.std.specs.Prelude.{filter}
 use Rattle.std.proofs.lemmas.List.{length-map}
 use Rattle.std.specs.List.{All, AllPairs}
 use Rattle.policy_model.specs.Policy.{Policy, net_at}
-use Rattle.policy_model.specs.Blocks.{is_ios_at, view_here}
+use Rattle.policy_model.specs.Blocks.{places_replies_at, view_here}
 use Rattle.policy_laws.proofs.InnerViews.{zone_below}
 use Rattle.topology.specs.View.{policy_of}
 use Rattle.nat_view.specs.Seen.{Sight}
 use Rattle.nat_view.specs.Sights.{sight_of}
 use Rattle.nat_view.specs.Views.{seen_of}
 use Rattle.permit_set.specs.Shown.{permit_of}
-use Rattle.acl_build.specs.Given.{AreKnown}
-use Rattle.rule_distribute.specs.Given.{site_with}
+use Rattle.permit_lines.specs.Given.{site_with, AreKnown}
 use Rattle.rule_distribute.specs.Paths.{is_on_way, path_row}
-use Rattle.rule_distribute.specs.Placed.{HaveRows, is_shut, told_closed, placed}
+use Rattle.rule_distribute.specs.Placed.{HaveRows, is_seen_at, is_shut, told_closed, placed}
 use Rattle.rule_distribute.specs.Shown.{pairs_seen}
-use Rattle.rule_distribute.proofs.Buckets.{some_below, some_rising, marked_below, group_is}
+use Rattle.rule_distribute.proofs.Buckets.{way_below, way_rising, seen_below, seen_rising, marked_below, group_is}
 use Rattle.rule_distribute.proofs.Joining.{have_rows, pairs_in_order, are_less}
-use Rattle.rule_distribute.proofs.Limited.{are_known}
 use Rattle.rule_distribute.proofs.Placing.{placed_is}
-use Rattle.rule_distribute.proofs.Sighted.{shown}
+use Rattle.rule_distribute.proofs.Sighted.{keeps}
 use Rattle.rule_distribute.proofs.places.place_at.Goals as goal
+
+pub seen_row-requires-clause-rows : goal.seen_row-requires-clause-rows
+seen_row-requires-clause-rows c =
+    let s = site_with (policy_of c.args.topo) c.args.graph.now in
+    let j = pairs_seen c.args.joined.now in
+    let policy = ap (λ (s : Sight). s.policy) c.view_at-view.ensures ∙ c.requires.policy in
+    subst (λ (p : Policy). HaveRows p j) (sym policy) (have_rows s (seen_of c.args.views.now).views (map permit_of c.args.permits.now) j c.requires.joined)
+
+pub seen_row-requires-clause-below : goal.seen_row-requires-clause-below
+seen_row-requires-clause-below c =
+    let s = site_with (policy_of c.args.topo) c.args.graph.now in
+    let pairs = c.args.joined.now.pairs.items in
+    let i = c.args.i.0 in
+    let below : i < length c.args.rows.now = omega (arith, c.requires.iface, c.requires.each) in
+    let same = group_is c.args.rows.now (path_row s pairs (length pairs)) i c.index-rows-i.result c.deref.result.now c.requires.on_path below c.index-rows-i.is c.deref.ensures.value in
+    way_below (is_on_way s pairs i) (length pairs) c.deref.result.now same
 
 pub closed_places-requires-clause-known : goal.closed_places-requires-clause-known
 closed_places-requires-clause-known c =
     let permits = map permit_of c.args.permits.now in
     let policy = ap (λ (s : Sight). s.policy) c.view_at-view.ensures ∙ c.requires.policy in
-    subst (λ (p : Policy). AreKnown p permits) (sym policy) (are_known (policy_of c.args.topo) permits c.requires.permits)
+    subst (λ (p : Policy). AreKnown p permits) (sym policy) c.requires.permits
 
 pub closed_places-requires-clause-rows : goal.closed_places-requires-clause-rows
 closed_places-requires-clause-rows c =
@@ -49,7 +64,8 @@ closed_places-requires-clause-below c =
     let i = c.args.i.0 in
     let below : i < length c.args.rows.now = omega (arith, c.requires.iface, c.requires.each) in
     let same = group_is c.args.rows.now (path_row s pairs (length pairs)) i c.index-rows-i.result c.deref.result.now c.requires.on_path below c.index-rows-i.is c.deref.ensures.value in
-    subst (All (λ w. w < length pairs)) (sym same) (some_below (is_on_way s pairs i) (length pairs))
+    let sight = sight_of c.view_at-view.result in
+    seen_below (is_on_way s pairs i) (length pairs) c.deref.result.now (is_seen_at sight.policy sight.tags (pairs_seen c.args.joined.now)) c.deref-2.result.now same (c.deref-2.ensures.value ∙ c.in_ok-row.ensures {u = tt})
 
 pub closed_places-requires-clause-rising : goal.closed_places-requires-clause-rising
 closed_places-requires-clause-rising c =
@@ -58,7 +74,8 @@ closed_places-requires-clause-rising c =
     let i = c.args.i.0 in
     let below : i < length c.args.rows.now = omega (arith, c.requires.iface, c.requires.each) in
     let same = group_is c.args.rows.now (path_row s pairs (length pairs)) i c.index-rows-i.result c.deref.result.now c.requires.on_path below c.index-rows-i.is c.deref.ensures.value in
-    subst (AllPairs (λ a b. a < b)) (sym same) (some_rising (is_on_way s pairs i) (length pairs))
+    let sight = sight_of c.view_at-view.result in
+    seen_rising (is_on_way s pairs i) (length pairs) c.deref.result.now (is_seen_at sight.policy sight.tags (pairs_seen c.args.joined.now)) c.deref-2.result.now same (c.deref-2.ensures.value ∙ c.in_ok-row.ensures {u = tt})
 
 pub placement_of-requires-clause-rows : goal.placement_of-requires-clause-rows
 placement_of-requires-clause-rows c =
@@ -71,10 +88,10 @@ placement_of-requires-clause-below c =
     let i = c.args.i.0 in
     let below : i < length c.args.rows.now = omega (arith, c.requires.iface, c.requires.each) in
     let same = group_is c.args.rows.now (path_row s pairs (length pairs)) i c.index-rows-i.result c.deref.result.now c.requires.on_path below c.index-rows-i.is c.deref.ensures.value in
-    let low = subst (All (λ w. w < length pairs)) (sym same) (some_below (is_on_way s pairs i) (length pairs)) in
     let sight = sight_of c.view_at-view.result in
-    marked_below (length pairs) (is_shut sight.policy sight.tags (map permit_of c.args.permits.now) (pairs_seen c.args.joined.now) c.is_ios_at-told.result c.deref.result.now) c.deref.result.now c.deref-2.result.now
-    (c.deref-2.ensures.value ∙ c.in_ok-places.ensures {u = tt}) low
+    let low = seen_below (is_on_way s pairs i) (length pairs) c.deref.result.now (is_seen_at sight.policy sight.tags (pairs_seen c.args.joined.now)) c.deref-2.result.now same (c.deref-2.ensures.value ∙ c.in_ok-row.ensures {u = tt}) in
+    marked_below (length pairs) (is_shut sight.policy sight.tags (map permit_of c.args.permits.now) (pairs_seen c.args.joined.now) c.places_replies_at-told.result c.deref-2.result.now) c.deref-2.result.now c.deref-3.result.now
+    (c.deref-3.ensures.value ∙ c.in_ok-places.ensures {u = tt}) low
 
 pub returns-clause-blocks : goal.returns-clause-blocks
 returns-clause-blocks c =
@@ -85,20 +102,25 @@ returns-clause-blocks c =
     let j = pairs_seen c.args.joined.now in
     let pairs = c.args.joined.now.pairs.items in
     let i = c.args.i.0 in
+    let told = c.places_replies_at-told.result in
+    let view = view_here s v permits i in
     let below : i < length c.args.rows.now = omega (arith, c.requires.iface, c.requires.each) in
     let same = group_is c.args.rows.now (path_row s pairs (length pairs)) i c.index-rows-i.result c.deref.result.now c.requires.on_path below c.index-rows-i.is c.deref.ensures.value in
-    let policy = ap (λ (s : Sight). s.policy) c.view_at-view.ensures ∙ c.requires.policy in
-    let view = ap (λ (s : Sight). s.tags) c.view_at-view.ensures in
-    let places = c.deref-2.ensures.value ∙ c.in_ok-places.ensures {u = tt} in
+    let policy : (sight_of c.view_at-view.result).policy ≡ p = ap (λ (s : Sight). s.policy) c.view_at-view.ensures ∙ c.requires.policy in
+    let tags : (sight_of c.view_at-view.result).tags ≡ view = ap (λ (s : Sight). s.tags) c.view_at-view.ensures in
+    let sight = sight_of c.view_at-view.result in
+    let row = c.deref-2.ensures.value ∙ c.in_ok-row.ensures {u = tt} in
+    let places = c.deref-3.ensures.value ∙ c.in_ok-places.ensures {u = tt} in
     (c.in_ok-place.ensures {u = tt}).blocks
-    ∙ (ap (placed p j c.is_ios_at-told.result) places
-    ∙ (ap (λ (q : Policy). placed p j c.is_ios_at-told.result (told_closed q (sight_of c.view_at-view.result).tags permits j c.is_ios_at-told.result c.deref.result.now)) policy
-    ∙ (ap (λ (tags : List ℕ). placed p j c.is_ios_at-told.result (told_closed p tags permits j c.is_ios_at-told.result c.deref.result.now)) view
-    ∙ (ap (λ (told : Bool). placed p j told (told_closed p (view_here s v permits i) permits j told c.deref.result.now)) c.is_ios_at-told.ensures
-    ∙ (ap (λ (row : List ℕ). placed p j (is_ios_at p i) (told_closed p (view_here s v permits i) permits j (is_ios_at p i) row)) same
+    ∙ (ap (placed p j told) places
+    ∙ (ap (λ (ws : List ℕ). placed p j told (told_closed sight.policy sight.tags permits j told ws)) row
+    ∙ (ap (λ (q : Policy). placed p j told (told_closed q sight.tags permits j told (filter (is_seen_at q sight.tags j) c.deref.result.now))) policy
+    ∙ (ap (λ (t : List ℕ). placed p j told (told_closed p t permits j told (filter (is_seen_at p t j) c.deref.result.now))) tags
+    ∙ (ap (λ (b : Bool). placed p j b (told_closed p view permits j b (filter (is_seen_at p view j) c.deref.result.now))) c.places_replies_at-told.ensures
+    ∙ (ap (λ (ws : List ℕ). placed p j (places_replies_at p i) (told_closed p view permits j (places_replies_at p i) (filter (is_seen_at p view j) ws))) same
     ∙ placed_is s v permits i j
     (record {
       pairs = c.requires.joined;
-      shown = shown c.args.topo (view_here s v permits i);
+      lengths = keeps c.args.topo view;
       zone = zone_below s c.requires.graph.table (net_at p i) (c.args.topo.kept.sound.numbered.placed i c.requires.iface).0;
-    }))))))
+    })))))))

@@ -1,6 +1,6 @@
 use Rattle.std.proofs.Common.{◌≡◌, ℕ, ◌<◌, false}
 use Rattle.topology.specs.View.{policy_of}
-use Rattle.rule_distribute.specs.Given.{site_with}
+use Rattle.permit_lines.specs.Given.{site_with}
 use Rattle.rule_distribute.specs.Lacking.{lacks_walk}
 use Rattle.rule_distribute.specs.Shown.{pairs_seen}
 use Rattle.rule_distribute.proofs.unjoined.first_lacking.Given as goal

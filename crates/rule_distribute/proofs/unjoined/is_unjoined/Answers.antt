@@ -2,7 +2,7 @@ use Rattle.std.proofs.Common.{◌∙◌, sym, ap}
 use Rattle.policy_model.specs.Lists.{is_nothing}
 use Rattle.policy_model.specs.Zones.{zone_of}
 use Rattle.topology.specs.View.{policy_of}
-use Rattle.rule_distribute.specs.Given.{site_with}
+use Rattle.permit_lines.specs.Given.{site_with}
 use Rattle.rule_distribute.specs.Paths.{crossing_seen}
 use Rattle.rule_distribute.proofs.Marks.{no_walk}
 use Rattle.rule_distribute.proofs.Nth.{nothing, nothing_seen}

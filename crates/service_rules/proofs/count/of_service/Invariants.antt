@@ -1,9 +1,10 @@
 use Rattle.std.proofs.Common.{◌≡◌, ◌+◌, ◌≤◌, map, drop, length, true}
-use Rattle.policy_model.specs.Permits.{service_permits}
+use Rattle.policy_model.specs.Permits.{service_items}
 use Rattle.topology.specs.Seen.{service_seen}
 use Rattle.topology.specs.View.{policy_of, sources_of}
 use Rattle.group_expand.specs.Sets.{object_seen}
 use Rattle.service_rules.specs.Counted.{counted, most}
+use Rattle.service_rules.specs.Ends.{is_action}
 use Rattle.service_rules.specs.Scope.{site_in}
 use Rattle.service_rules.proofs.Rules.{rules_to_come, sound_rules}
 use Rattle.service_rules.proofs.count.of_service.Given as goal
@@ -12,5 +13,5 @@ abbrev pub invariant-loop-rule : goal.invariant-loop-rule
 invariant-loop-rule l =
     (sound_rules (policy_of l.scope.topo) (drop l.rule-index l.rule-items) ≡ true)
     × (l.count ≤ most)
-    × (counted (l.count + length (rules_to_come (site_in l.scope) l.scope.areas.now (map object_seen l.user.items) (drop l.rule-index l.rule-items)))
-    ≡ counted (length (service_permits (site_in l.scope) l.scope.areas.now (service_seen (sources_of l.scope.topo) l.service))))
+    × (counted (l.count + length (rules_to_come (site_in l.scope) l.scope.areas.now (map object_seen l.user.items) l.deny (drop l.rule-index l.rule-items)))
+    ≡ counted (length (service_items (site_in l.scope) l.scope.areas.now (is_action l.deny) (service_seen (sources_of l.scope.topo) l.service))))

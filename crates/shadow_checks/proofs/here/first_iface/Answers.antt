@@ -5,7 +5,7 @@ use Rattle.policy_model.specs.Policy.{Iface}
 use Rattle.topology.specs.Seen.{iface_seen}
 use Rattle.topology.specs.View.{policy_of, sources_of}
 use Rattle.nat_view.specs.Sights.{sight_of}
-use Rattle.shadow_checks.specs.Holders.{HasNoIfaceShadow}
+use Rattle.shadow_checks.specs.Holders.{HasNoAddress}
 use Rattle.shadow_checks.proofs.here.first_iface.Goals as goal
 
 pub loop-i-preserved : goal.loop-i-preserved
@@ -13,7 +13,7 @@ loop-i-preserved c =
     let p = policy_of c.args.topo in
     let tags = (sight_of c.args.view).tags in
     let i = c.loop-i.i in
-    λ k low. ⊎_elim (λ e. subst (HasNoIfaceShadow p tags) (sym e) c.in_default.ensures) (λ ne. c.loop-i.invariant k (omega (arith, low, ne))) (cases_eq k i)
+    λ k low. ⊎_elim (λ e. subst (HasNoAddress p tags) (sym e) c.in_default.ensures) (λ ne. c.loop-i.invariant k (omega (arith, low, ne))) (cases_eq k i)
 
 pub returns : goal.returns
 returns c =

@@ -3,7 +3,7 @@ use Rattle.policy_model.specs.Headline.{Meaning}
 use Rattle.policy_model.specs.Zones.{zone_count}
 use Rattle.topology.specs.First.{HasNone as HasNoFault, TellsFirst}
 use Rattle.topology.specs.View.{policy_of, sources_of}
-use Rattle.zone_laws.proofs.Counted.{counted}
+use Rattle.zone_graph.proofs.Counted.{counted}
 use Rattle.nat_view.specs.Fails.{place_seen}
 use Rattle.nat_view.specs.Views.{seen_of}
 use Rattle.policy_model.specs.FirstFault.{view_at}

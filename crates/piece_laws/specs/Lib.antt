@@ -1,0 +1,2 @@
+pub mod HeaderBoxes
+pub mod Differences

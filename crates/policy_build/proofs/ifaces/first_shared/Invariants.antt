@@ -1,0 +1,8 @@
+use Rattle.std.proofs.Common.{◌≡◌, map, flat_map, drop, slice_get}
+use Rattle.spoc_ast.specs.Seen.{if_part_seen}
+use Rattle.policy_decls.specs.Said.{shared_in}
+use Rattle.policy_build.proofs.ifaces.first_shared.Given as goal
+
+abbrev pub invariant-loop-part : goal.invariant-loop-part
+invariant-loop-part l =
+    slice_get (flat_map shared_in (map if_part_seen l.parts)) 0 ≡ slice_get (flat_map shared_in (map if_part_seen (drop l.part-index l.parts))) 0

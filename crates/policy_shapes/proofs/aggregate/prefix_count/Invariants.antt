@@ -1,0 +1,10 @@
+use Rattle.std.proofs.Common.{◌≡◌, ◌+◌, ◌≤◌, length, map, flat_map, drop}
+use Rattle.spoc_ast.specs.Seen.{any_part_seen}
+use Rattle.policy_decls.specs.Shapes as shapes
+use Rattle.policy_shapes.proofs.aggregate.prefix_count.Given as goal
+
+abbrev pub invariant-loop-part : goal.invariant-loop-part
+invariant-loop-part l = record {
+  counted : l.count + length (flat_map shapes.ips_in_any_part (map any_part_seen (drop l.part-index l.parts))) ≡ length (flat_map shapes.ips_in_any_part (map any_part_seen l.parts));
+  within : l.count ≤ l.part-index;
+}

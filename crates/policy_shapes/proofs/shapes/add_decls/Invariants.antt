@@ -1,6 +1,0 @@
-use Rattle.std.proofs.Common.{◌≡◌, ◌++◌, [], map, flat_map, drop}
-use Rattle.spoc_ast.specs.Seen.{decl_seen, file_seen}
-use Rattle.policy_shapes.proofs.shapes.add_decls.Given as goal
-
-abbrev pub invariant-loop-decl : goal.invariant-loop-decl
-invariant-loop-decl l = map decl_seen l.found.items ++ map decl_seen (drop l.decl-index l.decl-items) ≡ map decl_seen l.initial.found.items ++ file_seen l.file

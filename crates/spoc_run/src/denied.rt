@@ -1,0 +1,333 @@
+// Whole runs over policies with rules that deny, with lists that were worked out by hand.
+use crate::cases::{CASE, Case, check_all};
+use crate::rows::{NETS, ONE_ROUTER, WEB_FILE, WEB_SERVICE};
+use std::test::Fail;
+
+// ---- a host
+
+const NETS_WITH_HOST: &str = "\
+network:n1 = { ip = 10.1.1.0/24; }
+network:n2 = { ip = 10.1.2.0/24; host:h = { ip = 10.1.2.10; } }
+";
+
+const WITHOUT_A_HOST: &str = "\
+service:s1 = {
+ user = network:n1;
+ deny src = user; dst = host:h; prt = tcp 80;
+ permit src = user; dst = network:n2; prt = tcp 80;
+}
+";
+
+const WITHOUT_A_HOST_AT_ALL: &str = "\
+service:s1 = {
+ user = network:n1;
+ permit src = user; dst = network:n2; prt = tcp 80;
+ deny src = user; dst = host:h; prt = ip;
+}
+";
+
+const WITHOUT_A_HOST_FILE: &str = "\
+! r1 IOS
+ip access-list extended E1_in
+ permit tcp 10.1.1.0 0.0.0.255 10.1.2.0 0.0.0.7 eq 80
+ permit tcp 10.1.1.0 0.0.0.255 10.1.2.8 0.0.0.1 eq 80
+ permit tcp 10.1.1.0 0.0.0.255 host 10.1.2.11 eq 80
+ permit tcp 10.1.1.0 0.0.0.255 10.1.2.12 0.0.0.3 eq 80
+ permit tcp 10.1.1.0 0.0.0.255 10.1.2.16 0.0.0.15 eq 80
+ permit tcp 10.1.1.0 0.0.0.255 10.1.2.32 0.0.0.31 eq 80
+ permit tcp 10.1.1.0 0.0.0.255 10.1.2.64 0.0.0.63 eq 80
+ permit tcp 10.1.1.0 0.0.0.255 10.1.2.128 0.0.0.127 eq 80
+ deny ip any any
+ip access-list extended E2_in
+ permit tcp 10.1.2.0 0.0.0.7 eq 80 10.1.1.0 0.0.0.255 established
+ permit tcp 10.1.2.8 0.0.0.1 eq 80 10.1.1.0 0.0.0.255 established
+ permit tcp host 10.1.2.11 eq 80 10.1.1.0 0.0.0.255 established
+ permit tcp 10.1.2.12 0.0.0.3 eq 80 10.1.1.0 0.0.0.255 established
+ permit tcp 10.1.2.16 0.0.0.15 eq 80 10.1.1.0 0.0.0.255 established
+ permit tcp 10.1.2.32 0.0.0.31 eq 80 10.1.1.0 0.0.0.255 established
+ permit tcp 10.1.2.64 0.0.0.63 eq 80 10.1.1.0 0.0.0.255 established
+ permit tcp 10.1.2.128 0.0.0.127 eq 80 10.1.1.0 0.0.0.255 established
+ deny ip any any
+interface E1
+ ip access-group E1_in in
+interface E2
+ ip access-group E2_in in
+";
+
+static A_HOST: [Case; 2] = [
+    // A host, before its permit: the network's other addresses are left, in two pieces.
+    Case {
+        files: &[("p", &[NETS_WITH_HOST, ONE_ROUTER, WITHOUT_A_HOST])],
+        text: "networks 2\nzones 2\nrouters 1\npermits 2\nlocal 0\nlines 18\nroutes 0\n",
+        held: &[("r1", WITHOUT_A_HOST_FILE)],
+        ..CASE
+    },
+    // All of it, behind its permit.
+    Case {
+        files: &[("p", &[NETS_WITH_HOST, ONE_ROUTER, WITHOUT_A_HOST_AT_ALL])],
+        text: "networks 2\nzones 2\nrouters 1\npermits 2\nlocal 0\nlines 18\nroutes 0\n",
+        held: &[("r1", WITHOUT_A_HOST_FILE)],
+        ..CASE
+    },
+];
+
+#[test]
+fn a_host_is_denied(rt: HostRuntime) -> Result<(), Fail> {
+    check_all(&rt, rt.alloc(), &A_HOST)?;
+    Ok(())
+}
+
+// ---- ports, and all of a permit
+
+const WITHOUT_PORTS: &str = "\
+service:s1 = {
+ user = network:n1;
+ permit src = user; dst = network:n2; prt = tcp 1-100;
+ deny src = user; dst = network:n2; prt = tcp 80-90;
+}
+";
+
+const WITHOUT_PORTS_FILE: &str = "\
+! r1 IOS
+ip access-list extended E1_in
+ permit tcp 10.1.1.0 0.0.0.255 10.1.2.0 0.0.0.255 range 1 79
+ permit tcp 10.1.1.0 0.0.0.255 10.1.2.0 0.0.0.255 range 91 100
+ deny ip any any
+ip access-list extended E2_in
+ permit tcp 10.1.2.0 0.0.0.255 range 1 79 10.1.1.0 0.0.0.255 established
+ permit tcp 10.1.2.0 0.0.0.255 range 91 100 10.1.1.0 0.0.0.255 established
+ deny ip any any
+interface E1
+ ip access-group E1_in in
+interface E2
+ ip access-group E2_in in
+";
+
+const ELSEWHERE: &str = "\
+service:s2 = {
+ user = network:n1;
+ deny src = user; dst = network:n2; prt = tcp 80;
+}
+";
+
+const SHUT_FILE: &str = "\
+! r1 IOS
+ip access-list extended E1_in
+ deny ip any any
+ip access-list extended E2_in
+ deny ip any any
+interface E1
+ ip access-group E1_in in
+interface E2
+ ip access-group E2_in in
+";
+
+const REPLIES_DENIED: &str = "\
+service:s2 = {
+ user = network:n2;
+ deny src = user; dst = network:n1; prt = ip;
+}
+";
+
+static PORTS: [Case; 3] = [
+    // Some ports, behind their permit.
+    Case {
+        files: &[("p", &[NETS, ONE_ROUTER, WITHOUT_PORTS])],
+        text: "networks 2\nzones 2\nrouters 1\npermits 2\nlocal 0\nlines 6\nroutes 0\n",
+        held: &[("r1", WITHOUT_PORTS_FILE)],
+        ..CASE
+    },
+    // All of a permit, in another service.
+    Case {
+        files: &[("p", &[NETS, ONE_ROUTER, WEB_SERVICE, ELSEWHERE])],
+        text: "networks 2\nzones 2\nrouters 1\npermits 0\nlocal 0\nlines 2\nroutes 0\n",
+        held: &[("r1", SHUT_FILE)],
+        ..CASE
+    },
+    // The replies' own direction: they pass all the same.
+    Case {
+        files: &[("p", &[NETS, ONE_ROUTER, WEB_SERVICE, REPLIES_DENIED])],
+        text: "networks 2\nzones 2\nrouters 1\npermits 1\nlocal 0\nlines 4\nroutes 0\n",
+        held: &[("r1", WEB_FILE)],
+        ..CASE
+    },
+];
+
+#[test]
+fn ports_are_denied(rt: HostRuntime) -> Result<(), Fail> {
+    check_all(&rt, rt.alloc(), &PORTS)?;
+    Ok(())
+}
+
+// ---- a network inside another, and a group
+
+const BEHIND_IT: &str = "\
+network:sub = { ip = 10.1.2.128/25; }
+router:u = { interface:n2 = { ip = 10.1.2.2; } interface:sub; }
+service:s1 = {
+ user = network:n1;
+ deny src = user; dst = network:sub; prt = tcp 80;
+ permit src = user; dst = network:n2; prt = tcp 80;
+}
+";
+
+const BEHIND_IT_FILE: &str = "\
+! r1 IOS
+ip access-list extended E1_in
+ deny ip 10.1.1.0 0.0.0.255 10.1.2.128 0.0.0.127
+ permit tcp 10.1.1.0 0.0.0.255 10.1.2.0 0.0.0.255 eq 80
+ deny ip any any
+ip access-list extended E2_in
+ deny ip 10.1.2.128 0.0.0.127 10.1.1.0 0.0.0.255
+ permit tcp 10.1.2.0 0.0.0.255 eq 80 10.1.1.0 0.0.0.255 established
+ deny ip any any
+interface E1
+ ip access-group E1_in in
+interface E2
+ ip access-group E2_in in
+";
+
+const HOSTS: &str = "\
+network:n1 = {
+ ip = 10.1.1.0/24;
+ host:all = { range = 10.1.1.5-10.1.1.10; }
+ host:a = { ip = 10.1.1.7; }
+ host:b = { ip = 10.1.1.10; }
+}
+network:n2 = { ip = 10.1.2.0/24; }
+";
+
+const WITHOUT_A_GROUP: &str = "\
+group:g = host:a, host:b;
+service:s1 = {
+ user = host:all;
+ permit src = user; dst = network:n2; prt = tcp 80;
+}
+service:s2 = {
+ user = group:g;
+ deny src = user; dst = network:n2; prt = tcp 80;
+}
+";
+
+const WITHOUT_A_GROUP_FILE: &str = "\
+! r1 IOS
+ip access-list extended E1_in
+ permit tcp host 10.1.1.5 10.1.2.0 0.0.0.255 eq 80
+ permit tcp host 10.1.1.6 10.1.2.0 0.0.0.255 eq 80
+ permit tcp 10.1.1.8 0.0.0.1 10.1.2.0 0.0.0.255 eq 80
+ deny ip any any
+ip access-list extended E2_in
+ permit tcp 10.1.2.0 0.0.0.255 eq 80 host 10.1.1.5 established
+ permit tcp 10.1.2.0 0.0.0.255 eq 80 host 10.1.1.6 established
+ permit tcp 10.1.2.0 0.0.0.255 eq 80 10.1.1.8 0.0.0.1 established
+ deny ip any any
+interface E1
+ ip access-group E1_in in
+interface E2
+ ip access-group E2_in in
+";
+
+static NETWORKS: [Case; 2] = [
+    // A network inside the permitted one is shut, although the outer permit would reach into it.
+    Case {
+        files: &[("p", &[NETS, ONE_ROUTER, BEHIND_IT])],
+        text: "networks 3\nzones 2\nrouters 1\npermits 1\nlocal 0\nlines 6\nroutes 0\n",
+        held: &[("r1", BEHIND_IT_FILE)],
+        ..CASE
+    },
+    // Two hosts of a group, out of a range: one inside it, and one at its end.
+    Case {
+        files: &[("p", &[HOSTS, ONE_ROUTER, WITHOUT_A_GROUP])],
+        text: "networks 2\nzones 2\nrouters 1\npermits 2\nlocal 0\nlines 8\nroutes 0\n",
+        held: &[("r1", WITHOUT_A_GROUP_FILE)],
+        ..CASE
+    },
+];
+
+#[test]
+fn networks_and_groups_are_denied(rt: HostRuntime) -> Result<(), Fail> {
+    check_all(&rt, rt.alloc(), &NETWORKS)?;
+    Ok(())
+}
+
+// ---- refusals
+
+const MANAGED_END_DENIED: &str = "\
+service:s1 = {
+ user = network:n1;
+ permit src = user; dst = network:n2; prt = tcp 80;
+ deny src = user; dst = interface:r1.n2; prt = tcp 80;
+}
+";
+
+const NO_USER_DENIED: &str = "\
+service:s1 = {
+ user = network:n1;
+ permit src = user; dst = network:n2; prt = tcp 80;
+ deny src = network:n1; dst = network:n2; prt = tcp 80;
+}
+";
+
+static REFUSED: [Case; 2] = [
+    // A managed router's interface is no end of a rule that denies either.
+    Case {
+        files: &[("p", &[NETS, ONE_ROUTER, MANAGED_END_DENIED])],
+        status: 1,
+        text: "fault ManagedEnd service:s1 interface:r1.n2\n",
+        ..CASE
+    },
+    // The user stands in each rule.
+    Case {
+        files: &[("p", &[NETS, ONE_ROUTER, NO_USER_DENIED])],
+        status: 1,
+        text: "fault Shape S14 service:s1\n",
+        ..CASE
+    },
+];
+
+#[test]
+fn denials_are_refused(rt: HostRuntime) -> Result<(), Fail> {
+    check_all(&rt, rt.alloc(), &REFUSED)?;
+    Ok(())
+}
+
+// ---- many pieces
+
+const WITHOUT_A_TYPE: &str = "\
+service:s1 = {
+ user = network:n1;
+ permit src = user; dst = network:n2; prt = icmp;
+ deny src = user; dst = network:n2; prt = icmp 8;
+}
+";
+
+const WITHOUT_A_PORT: &str = "\
+service:s1 = {
+ user = network:n1;
+ permit src = user; dst = network:n2; prt = ip;
+ deny src = user; dst = network:n2; prt = tcp 80;
+}
+";
+
+static PIECES: [Case; 2] = [
+    // One type of ICMP: each of the other 255 is left.
+    Case {
+        files: &[("p", &[NETS, ONE_ROUTER, WITHOUT_A_TYPE])],
+        text: "networks 2\nzones 2\nrouters 1\npermits 255\nlocal 0\nlines 257\nroutes 0\n",
+        only_text: true,
+        ..CASE
+    },
+    // One port of everything: 254 protocols are left, and TCP in two pieces; TCP and UDP have replies.
+    Case {
+        files: &[("p", &[NETS, ONE_ROUTER, WITHOUT_A_PORT])],
+        text: "networks 2\nzones 2\nrouters 1\npermits 256\nlocal 0\nlines 261\nroutes 0\n",
+        only_text: true,
+        ..CASE
+    },
+];
+
+#[test]
+fn denials_leave_many_pieces(rt: HostRuntime) -> Result<(), Fail> {
+    check_all(&rt, rt.alloc(), &PIECES)?;
+    Ok(())
+}
