@@ -3,7 +3,7 @@ use Rattle.std.proofs.Common.{◌≡◌, ℕ, List, true, map, sym, ap, subst, �
 use Rattle.std.specs.Prelude.{None, Result, Ok, Err, IfOk, IfErr, IsTrue}
 use Rattle.std.specs.Str.{bytes_eq}
 use Rattle.std.specs.List.{IsDistinct}
-use Rattle.policy_model.specs.Policy.{Policy}
+use Rattle.policy_model.specs.Policy.{Policy, managed_routers}
 use Rattle.policy_model.specs.Filters.{Line}
 use Rattle.policy_laws.specs.Shaped.{IsShaped}
 use Rattle.policy_laws.specs.Routed.{IsWired}
@@ -29,6 +29,7 @@ use Rattle.policy_outcome.specs.Found.{meaning_in, pairs_in}
 use Rattle.policy_outcome.specs.Exact.{DecidesExactly, configs_for}
 use Rattle.policy_compile.specs.Seen.{written_of}
 use Rattle.policy_compile.specs.declared.compiled.Compiled.{Compiled}
+use Rattle.printed_laws.specs.ReadFiles.{AreReadAs}
 use Rattle.source_laws.specs.Sources.{source_texts, policy_in, outcome_of}
 use Rattle.compile_core.specs.Exact.{AreExact, file_names}
 use Rattle.compile_core.proofs.Parts.{past_texts}
@@ -49,10 +50,12 @@ shaped_and_wired topo sources law formed e none = law (declared (source_texts so
 
 -- what is written for it is exact
 pub exact_of : (sources : List (List ℕ × List ℕ)) (written : Written) →
-    (written ≡ written_for (meaning_of (policy_in sources))) × DecidesExactly (policy_in sources) (configs_for (meaning_of (policy_in sources))) → AreExact sources written
-exact_of sources written h = record {
+    (written ≡ written_for (meaning_of (policy_in sources))) × DecidesExactly (policy_in sources) (configs_for (meaning_of (policy_in sources))) →
+    AreReadAs (policy_in sources) (managed_routers (policy_in sources)) (configs_for (meaning_of (policy_in sources))) written.files → AreExact sources written
+exact_of sources written h read = record {
   lists = lists_for (meaning_of (policy_in sources));
   files = ap (λ (w : Written). w.files) h.0;
+  read = read;
   decides = h.1;
 }
 
@@ -100,9 +103,13 @@ module _ (topo : Topo) (sources : List Source) (policy : policy_of topo ≡ poli
         (written_of made ≡ written_for (meaning_of (policy_in pairs))) × DecidesExactly (policy_in pairs) (configs_for (meaning_of (policy_in pairs)))
     decided made e = law (policy_in pairs) (written_of made) (subst IsSound policy topo.kept.sound) shape.0 shape.1 (meant_by (Ok (written_of made)) e)
 
-    pub exact : (r : Result Compiled Refusal) → IfOk r (λ made. outcome_for (meaning_in topo) ≡ Ok (written_of made)) → IfOk r (λ made. AreExact pairs (written_of made))
-    exact (Ok made) e = exact_of pairs (written_of made) (decided made e)
-    exact (Err refusal) e = tt
+    pub exact :
+        ((p : Policy) (written : Written) → IsSound p → IsShaped p → outcome_for (meaning_of p) ≡ Ok written → AreReadAs p (managed_routers p) (configs_for (meaning_of p)) written.files) →
+        (r : Result Compiled Refusal) → IfOk r (λ made. outcome_for (meaning_in topo) ≡ Ok (written_of made)) → IfOk r (λ made. AreExact pairs (written_of made))
+    exact reads (Ok made) e =
+        exact_of pairs (written_of made) (decided made e)
+        (reads (policy_in pairs) (written_of made) (subst IsSound policy topo.kept.sound) shape.0 (meant_by (Ok (written_of made)) e))
+    exact reads (Err refusal) e = tt
 
     pub named : ((decls : List DeclText) (lists : List (List Line)) → fault_of decls ≡ None → IsDistinct bytes_eq (map (λ file. file.0) (files_for (policy_said decls) lists))) →
         fault_of (declared (source_texts pairs)) ≡ None → (r : Result Compiled Refusal) → IfOk r (λ made. outcome_for (meaning_in topo) ≡ Ok (written_of made)) →

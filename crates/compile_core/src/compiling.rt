@@ -17,6 +17,7 @@ use outcome_laws::{accepted_policies_decide_exactly, files_have_distinct_names};
 use policy_compile::Compiled;
 use policy_source::laws::declarations_are_formed_and_written;
 use policy_source::read_policy;
+use printed_laws::written_files_read_exactly;
 use shape_laws::policies_said_are_shaped;
 use spoc_base::{Refusal, Source};
 use std::alloc::Global;
@@ -37,6 +38,7 @@ fn compile_said(alloc: Global, sources: &[Source], topo: Topo<'_>) -> Result<Com
     policies_said_are_shaped();
     declarations_are_formed_and_written();
     accepted_policies_decide_exactly();
+    written_files_read_exactly();
     files_have_distinct_names();
     policy_compile::compile(alloc, topo)
 }
@@ -54,8 +56,9 @@ fn compile_said(alloc: Global, sources: &[Source], topo: Topo<'_>) -> Result<Com
 /// told is that of the first fault of this whole table (`TellsFirst`), and a policy that is compiled
 /// has none (`HaveNone`).
 ///
-/// The files of a policy that is accepted are the texts of configurations that decide exactly
-/// (`AreExact`), and no two have one name, so that none is written over another.
+/// The files of a policy that is accepted are the texts of configurations that decide exactly, and
+/// each reads as its router's configuration and as no other (`AreExact`). No two have one name, so
+/// that none is written over another.
 pub fn compile(alloc: Global, sources: &[Source]) -> Result<Compiled, Refusal>
     requires { All (λ s. length s.text ≤ 4194304) sources.now }
     ensures ok { IfOk result (λ c. outcome_of (map pair_of sources.now) ≡ Ok (written_of c)) }

@@ -7,3 +7,4 @@ pub mod Answer
 pub mod Decided
 pub mod Caused
 pub mod Held
+pub mod Answering

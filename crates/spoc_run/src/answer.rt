@@ -1,4 +1,4 @@
-ghost use Rattle.std.specs.Prelude.{◌≡◌, ◌≤◌, [], map, length, Err, IfOk, IfErr};
+ghost use Rattle.std.specs.Prelude.{◌≡◌, ◌≤◌, [], map, length, IfOk, IfErr};
 ghost use Rattle.std.specs.Str.{bytes_eq};
 ghost use Rattle.std.specs.List.{IsDistinct, All};
 ghost use Rattle.spoc_run.specs.Policy.{most_of_one};
@@ -7,9 +7,8 @@ ghost use Rattle.topology.specs.First.{IsRefusalOf};
 ghost use Rattle.fault_text.specs.Texts.{pair_of, fault_line};
 ghost use Rattle.device_files.specs.Seen.{file_of};
 ghost use Rattle.policy_compile.specs.Seen.{written_of};
-ghost use Rattle.spoc_run.specs.Outcome.{compiled_of};
 ghost use Rattle.spoc_run.specs.Answer.{bytes_of_message};
-ghost use Rattle.spoc_run.specs.Decided.{IsCompiled, AnswersSources, AnswersFail};
+ghost use Rattle.spoc_run.specs.Decided.{IsCompiled, IsRefused, AnswersSources, AnswersFail};
 
 use crate::load::LoadFail;
 use crate::texts::too_large;
@@ -71,7 +70,7 @@ pub fn plain(alloc: Global, status: u8, text: Message) -> Answer
 fn compile_sources(alloc: Global, sources: &[Source]) -> Result<Compiled, Refusal>
     requires { All (λ s. length s.text ≤ most_of_one) sources.now }
     ensures ok { IfOk result (λ c. IsCompiled (map pair_of sources.now) (written_of c)) }
-    ensures refused { IfErr result (IsRefusalOf (λ fault. compiled_of (map pair_of sources.now) ≡ Err (fault_line (map pair_of sources.now) fault))) }
+    ensures refused { IfErr result (IsRefusalOf (λ fault. IsRefused (map pair_of sources.now) (fault_line (map pair_of sources.now) fault))) }
 {
     compile(alloc, sources)
 }
@@ -93,7 +92,7 @@ fn answer_for_compiled(alloc: Global, sources: &[Source], compiled: Compiled) ->
 
 // The answer for a policy that is refused.
 fn answer_for_fault(alloc: Global, sources: &[Source], fault: Fault) -> Answer
-    requires { compiled_of (map pair_of sources.now) ≡ Err (fault_line (map pair_of sources.now) fault) }
+    requires { IsRefused (map pair_of sources.now) (fault_line (map pair_of sources.now) fault) }
     ensures { AnswersSources (map pair_of sources.now) result.status (bytes_of_message result.text) (map file_of result.files) }
 {
     match fault_line(alloc, fault, sources) {

@@ -331,3 +331,117 @@ fn denials_leave_many_pieces(rt: HostRuntime) -> Result<(), Fail> {
     check_all(&rt, rt.alloc(), &PIECES)?;
     Ok(())
 }
+
+// ---- more than the limit
+
+const SIXTEEN_HOSTS: &str = "\
+network:n1 = {
+ ip = 10.1.1.0/24;
+ host:a0 = { ip = 10.1.1.16; }
+ host:a1 = { ip = 10.1.1.17; }
+ host:a2 = { ip = 10.1.1.18; }
+ host:a3 = { ip = 10.1.1.19; }
+ host:a4 = { ip = 10.1.1.20; }
+ host:a5 = { ip = 10.1.1.21; }
+ host:a6 = { ip = 10.1.1.22; }
+ host:a7 = { ip = 10.1.1.23; }
+ host:a8 = { ip = 10.1.1.24; }
+ host:a9 = { ip = 10.1.1.25; }
+ host:a10 = { ip = 10.1.1.26; }
+ host:a11 = { ip = 10.1.1.27; }
+ host:a12 = { ip = 10.1.1.28; }
+ host:a13 = { ip = 10.1.1.29; }
+ host:a14 = { ip = 10.1.1.30; }
+ host:a15 = { ip = 10.1.1.31; }
+}
+network:n2 = {
+ ip = 10.1.2.0/24;
+ host:b0 = { ip = 10.1.2.16; }
+ host:b1 = { ip = 10.1.2.17; }
+ host:b2 = { ip = 10.1.2.18; }
+ host:b3 = { ip = 10.1.2.19; }
+ host:b4 = { ip = 10.1.2.20; }
+ host:b5 = { ip = 10.1.2.21; }
+ host:b6 = { ip = 10.1.2.22; }
+ host:b7 = { ip = 10.1.2.23; }
+ host:b8 = { ip = 10.1.2.24; }
+ host:b9 = { ip = 10.1.2.25; }
+ host:b10 = { ip = 10.1.2.26; }
+ host:b11 = { ip = 10.1.2.27; }
+ host:b12 = { ip = 10.1.2.28; }
+ host:b13 = { ip = 10.1.2.29; }
+ host:b14 = { ip = 10.1.2.30; }
+ host:b15 = { ip = 10.1.2.31; }
+}
+group:g1 =
+ host:a0, host:a1, host:a2, host:a3, host:a4, host:a5, host:a6, host:a7, host:a8, host:a9, host:a10, host:a11, host:a12, host:a13, host:a14, host:a15;
+group:g2 =
+ host:b0, host:b1, host:b2, host:b3, host:b4, host:b5, host:b6, host:b7, host:b8, host:b9, host:b10, host:b11, host:b12, host:b13, host:b14, host:b15;
+";
+
+// Each one has its predecessor four times: the last one has 16,384 protocols.
+const FOURFOLD: &str = "\
+protocolgroup:p1 = tcp 1, tcp 2, tcp 3, tcp 4;
+protocolgroup:p2 = protocolgroup:p1, protocolgroup:p1, protocolgroup:p1, protocolgroup:p1;
+protocolgroup:p3 = protocolgroup:p2, protocolgroup:p2, protocolgroup:p2, protocolgroup:p2;
+protocolgroup:p4 = protocolgroup:p3, protocolgroup:p3, protocolgroup:p3, protocolgroup:p3;
+protocolgroup:p5 = protocolgroup:p4, protocolgroup:p4, protocolgroup:p4, protocolgroup:p4;
+protocolgroup:p6 = protocolgroup:p5, protocolgroup:p5, protocolgroup:p5, protocolgroup:p5;
+protocolgroup:p7 = protocolgroup:p6, protocolgroup:p6, protocolgroup:p6, protocolgroup:p6;
+";
+
+const MANY_PERMITS: &str = "\
+service:s1 = {
+ user = group:g1;
+ permit src = user; dst = group:g2; prt = protocolgroup:p7;
+}
+";
+
+const MANY_DENIALS: &str = "\
+service:s1 = {
+ user = group:g1;
+ deny src = user; dst = group:g2; prt = protocolgroup:p7;
+}
+";
+
+// 8,192 permits, of each of which a denial leaves 509 pieces: 255 types of ICMP, TCP, UDP and 252 more protocols.
+const MANY_PIECES: &str = "\
+protocolgroup:q1 = ip, ip, ip, ip;
+protocolgroup:q2 = protocolgroup:q1, protocolgroup:q1;
+protocolgroup:q3 = protocolgroup:q2, protocolgroup:q2, protocolgroup:q2, protocolgroup:q2;
+service:s1 = {
+ user = group:g1;
+ permit src = user; dst = group:g2; prt = protocolgroup:q3;
+ deny src = user; dst = group:g2; prt = icmp 8;
+}
+";
+
+static TOO_MANY: [Case; 3] = [
+    // 4,194,304 permits.
+    Case {
+        files: &[("p", &[SIXTEEN_HOSTS, ONE_ROUTER, FOURFOLD, MANY_PERMITS])],
+        status: 1,
+        text: "fault Limit permits\n",
+        ..CASE
+    },
+    // As many denials, and nothing that they could take away from.
+    Case {
+        files: &[("p", &[SIXTEEN_HOSTS, ONE_ROUTER, FOURFOLD, MANY_DENIALS])],
+        status: 1,
+        text: "fault Limit permits\n",
+        ..CASE
+    },
+    // More pieces than that, of few permits and denials.
+    Case {
+        files: &[("p", &[SIXTEEN_HOSTS, ONE_ROUTER, MANY_PIECES])],
+        status: 1,
+        text: "fault Limit permits\n",
+        ..CASE
+    },
+];
+
+#[test]
+fn too_many_are_refused(rt: HostRuntime) -> Result<(), Fail> {
+    check_all(&rt, rt.alloc(), &TOO_MANY)?;
+    Ok(())
+}

@@ -1,11 +1,11 @@
-ghost use Rattle.std.specs.Prelude.{◌==◌, ◌||◌, nat_eq, codes, ◌≡◌, ◌≤◌, ◌<◌, ◌+◌, ◌-◌, min, length, IfOk, IfErr, OnOk, IfSome, IsSome, IsErrOf, All, map, List, ℕ, None, Some};
+ghost use Rattle.std.specs.Prelude.{◌==◌, ◌||◌, nat_eq, codes, ◌≡◌, ◌≤◌, ◌<◌, ◌+◌, ◌-◌, min, length, IfOk, IfErr, OnOk, IfSome, IsSome, IsErrOf, All, map, List, ℕ, None, Some, true};
 ghost use Rattle.std.specs.Option.{ForSome};
 ghost use Rattle.std.specs.Str.{bytes_eq};
 ghost use Rattle.std.specs.List.{filter, list_any, slice_split, starts_with};
 ghost use Rattle.std.specs.Ordering.{nat_cmp};
 ghost use Rattle.std.specs.Cmp.Lexicographic.{slice_cmp};
 ghost use Rattle.std.specs.BTreeSet.{IsFromIterResult};
-ghost use Rattle.spoc_io.specs.Files.{bytes_at};
+ghost use Rattle.spoc_io.specs.Files.{bytes_at, paths};
 ghost use Rattle.fault_text.specs.Texts.{pair_of};
 ghost use Rattle.spoc_run.specs.Sources.{IsLargeOf, HasLoadCause};
 ghost use Rattle.spoc_run.specs.Paths.{is_policy_path, is_skipped_part};
@@ -123,11 +123,15 @@ fn read_all<P: Folder>(
     policy: &mut P,
     wanted: BTreeSet<Text>,
 ) -> Result<Vec<Source>, LoadFail>
-    requires { ForSome (P.files policy.old) (λ fs. All (λ path. IsSome (bytes_at fs path)) wanted.keys) }
+    requires there { ForSome (P.files policy.old) (λ fs. All (λ path. IsSome (bytes_at fs path)) wanted.keys) }
+    requires policy { All (λ path. is_policy_path path ≡ true) wanted.keys }
+    ensures paths { IfOk result (λ v. paths (map pair_of v.items) ≡ wanted.keys) }
     ensures sources { IfOk result (λ v. ForSome (P.files policy.old) (λ fs. map pair_of v.items ≡ with_bytes fs wanted.keys)) }
     ensures each { IfOk result (λ v. All (λ s. length s.text ≤ most_of_one) v.items) }
     ensures small { OnOk result (ForSome (P.files policy.old) (λ fs. first_large most_of_all (with_bytes fs wanted.keys) ≡ None)) }
     ensures large { IfErr result (IsLargeOf (λ path. ForSome (P.files policy.old) (λ fs. first_large most_of_all (with_bytes fs wanted.keys) ≡ Some path))) }
+    ensures fits { IfOk result (λ v. first_large most_of_all (map pair_of v.items) ≡ None) }
+    ensures named { IfErr result (IsLargeOf (λ path. is_policy_path path ≡ true)) }
     ensures same { P.files policy.new ≡ P.files policy.old }
     ensures cause { HasLoadCause (P.faults policy.old) (P.faults policy.new) (P.larges policy.old) (P.larges policy.new) result }
 {
@@ -147,6 +151,9 @@ pub fn load<P: Folder>(alloc: Global, policy: &mut P) -> Result<Vec<Source>, Loa
     ensures each { IfOk result (λ v. All (λ s. length s.text ≤ most_of_one) v.items) }
     ensures small { OnOk result (ForSome (P.files policy.old) (λ fs. first_large most_of_all (policy_of fs) ≡ None)) }
     ensures large { IfErr result (IsLargeOf (λ path. ForSome (P.files policy.old) (λ fs. first_large most_of_all (policy_of fs) ≡ Some path))) }
+    ensures own { IfOk result (λ v. policy_of (map pair_of v.items) ≡ map pair_of v.items) }
+    ensures fits { IfOk result (λ v. first_large most_of_all (map pair_of v.items) ≡ None) }
+    ensures named { IfErr result (IsLargeOf (λ path. is_policy_path path ≡ true)) }
     ensures same { P.files policy.new ≡ P.files policy.old }
     ensures cause { HasLoadCause (P.faults policy.old) (P.faults policy.new) (P.larges policy.old) (P.larges policy.new) result }
 {

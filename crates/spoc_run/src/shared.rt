@@ -132,7 +132,64 @@ interface E2
  ip access-group E2_in in
 ";
 
-static SHARED: [Case; 3] = [
+const TWO_OF_ONE_ROUTER: &str = "\
+network:a = { ip = 10.0.1.0/24; }
+network:b = { ip = 10.0.2.0/24; }
+network:c = { ip = 10.0.3.0/24; }
+router:u = { interface:a = { ip = 10.0.1.2; } interface:b = { ip = 10.0.2.2; } }
+router:r1 = {
+ managed;
+ model = IOS;
+ interface:a = { ip = 10.0.1.1; hardware = E1; virtual = { ip = 10.0.1.100; } }
+ interface:b = { ip = 10.0.2.1; hardware = E2; virtual = { ip = 10.0.2.100; } }
+ interface:c = { ip = 10.0.3.1; hardware = E3; }
+}
+router:r2 = {
+ managed;
+ model = IOS;
+ interface:a = { ip = 10.0.1.3; hardware = E1; virtual = { ip = 10.0.1.100; } }
+ interface:c = { ip = 10.0.3.2; hardware = E2; }
+}
+service:s1 = {
+ user = network:a;
+ permit src = user; dst = network:c; prt = tcp 80;
+}
+";
+
+const TWO_OF_ONE_ROUTER_R1: &str = "\
+! r1 IOS
+ip access-list extended E1_in
+ permit tcp 10.0.1.0 0.0.0.255 10.0.3.0 0.0.0.255 eq 80
+ deny ip any any
+ip access-list extended E2_in
+ permit tcp 10.0.1.0 0.0.0.255 10.0.3.0 0.0.0.255 eq 80
+ deny ip any any
+ip access-list extended E3_in
+ permit tcp 10.0.3.0 0.0.0.255 eq 80 10.0.1.0 0.0.0.255 established
+ deny ip any any
+interface E1
+ ip access-group E1_in in
+interface E2
+ ip access-group E2_in in
+interface E3
+ ip access-group E3_in in
+";
+
+const TWO_OF_ONE_ROUTER_R2: &str = "\
+! r2 IOS
+ip access-list extended E1_in
+ permit tcp 10.0.1.0 0.0.0.255 10.0.3.0 0.0.0.255 eq 80
+ deny ip any any
+ip access-list extended E2_in
+ permit tcp 10.0.3.0 0.0.0.255 eq 80 10.0.1.0 0.0.0.255 established
+ deny ip any any
+interface E1
+ ip access-group E1_in in
+interface E2
+ ip access-group E2_in in
+";
+
+static SHARED: [Case; 4] = [
     // A walk that enters by one of two sharers and leaves by the other is shut: the way over r1 and r3 is none.
     Case {
         files: &[("p", &[SHARING])],
@@ -152,6 +209,13 @@ static SHARED: [Case; 3] = [
         files: &[("p", &[HUB, THIRD_OTHER])],
         text: "networks 4\nzones 4\nrouters 3\npermits 1\nlocal 0\nlines 10\nroutes 0\n",
         held: &[("r1", HUB_R1), ("r2", SHUT_R2), ("r3", HUB_R3)],
+        ..CASE
+    },
+    // A sharer at a router with a second interface in that zone, which has a shared address of its own.
+    Case {
+        files: &[("p", &[TWO_OF_ONE_ROUTER])],
+        text: "networks 3\nzones 2\nrouters 2\npermits 1\nlocal 0\nlines 10\nroutes 0\n",
+        held: &[("r1", TWO_OF_ONE_ROUTER_R1), ("r2", TWO_OF_ONE_ROUTER_R2)],
         ..CASE
     },
 ];
@@ -183,10 +247,52 @@ router:r1 = {
 router:u = { interface:n2 = { ip = 10.1.2.2; } interface:sub; }
 ";
 
-static NOT_SHARED: [Case; 2] = [
+const OWN_OF_A_LATER_ROUTER: &str = "\
+network:a = { ip = 10.0.1.0/24; }
+network:b = { ip = 10.0.2.0/24; }
+network:c = { ip = 10.0.3.0/24; }
+network:s = { ip = 10.0.0.0/24; }
+router:r1 = {
+ managed;
+ model = IOS;
+ interface:a = { ip = 10.0.1.1; hardware = E1; virtual = { ip = 10.0.1.9; } }
+ interface:b = { ip = 10.0.2.1; hardware = E2; }
+}
+router:r2 = {
+ managed;
+ model = IOS;
+ interface:b = { ip = 10.0.2.2; hardware = E1; }
+ interface:c = { ip = 10.0.3.2; hardware = E2; }
+}
+router:r3 = {
+ managed;
+ model = IOS;
+ interface:a = { ip = 10.0.1.3; hardware = E1; virtual = { ip = 10.0.1.9; } }
+ interface:c = { ip = 10.0.3.3; hardware = E2; }
+}
+router:r0 = {
+ managed;
+ model = IOS;
+ interface:s = { ip = 10.0.0.1; hardware = E1; }
+ interface:a = { ip = 10.0.1.9; hardware = E2; }
+}
+service:s1 = {
+ user = network:s;
+ permit src = user; dst = network:c; prt = tcp 80;
+}
+";
+
+static NOT_SHARED: [Case; 3] = [
     // The shared address is the own one of a later interface.
     Case {
         files: &[("p", &[NETS, OWN_OF_ANOTHER])],
+        status: 1,
+        text: "fault Shape S15 router:r1\n",
+        ..CASE
+    },
+    // Two sharers have what is the own address of a managed router.
+    Case {
+        files: &[("p", &[OWN_OF_A_LATER_ROUTER])],
         status: 1,
         text: "fault Shape S15 router:r1\n",
         ..CASE

@@ -1,9 +1,11 @@
-ghost use Rattle.std.specs.Prelude.{◌==◌, ◌||◌, IsTrue, true, ◌≡◌, ◌≢◌, ◌⊎◌, ◌≤◌, ℕ, IfSome, map};
+ghost use Rattle.std.specs.Prelude.{◌==◌, ◌||◌, IsTrue, true, ◌≡◌, ◌≢◌, ◌⊎◌, ◌≤◌, ℕ, List, IfSome, map, false};
 ghost use Rattle.std.specs.Option.{ForSome};
 ghost use Rattle.std.specs.Str.{bytes_eq};
 ghost use Rattle.std.specs.List.{IsDistinct};
 ghost use Rattle.spoc_io.specs.Causes.{Rose, BothTold};
-ghost use Rattle.spoc_io.specs.Files.{paths, Grows, GrowsPart};
+ghost use Rattle.spoc_io.specs.Files.{Files, paths, Grows, GrowsPart};
+ghost use Rattle.first_fault_laws.specs.Whole.{last_row};
+ghost use Rattle.source_laws.specs.Table.{HaveNone};
 ghost use Rattle.spoc_run.specs.Policy.{policy_of};
 ghost use Rattle.spoc_run.specs.Outcome.{is_compile, text_of};
 ghost use Rattle.device_files.specs.Seen.{file_of};
@@ -11,6 +13,7 @@ ghost use Rattle.spoc_run.specs.Answer.{bytes_of_message};
 ghost use Rattle.spoc_run.specs.Decided.{IsExactly};
 ghost use Rattle.spoc_run.specs.Held.{HoldsExact};
 ghost use Rattle.spoc_run.specs.Puts.{PutsAll, PutsSome};
+ghost use Rattle.spoc_run.specs.Answering.{IsDecided, Stops, Leaves, TellsFirstFault, IsByFirstFault};
 ghost use Rattle.spoc_run.specs.Caused.{IsCaused, InsteadOf, NothingFailed, IsSettled, is_either, files_of};
 
 use crate::answer::{Answer, Message, answer_for_fail, answer_for_sources, plain};
@@ -42,6 +45,8 @@ fn decide<P: Folder>(alloc: Global, words: &[Text], policy: &mut P) -> Answer
     ensures names { IsDistinct bytes_eq (paths (map file_of result.files)) }
     ensures exact { result.status ≡ 0 → ForSome (P.files policy.old) (λ fs. IsExactly (policy_of fs)) }
     ensures same { P.files policy.new ≡ P.files policy.old }
+    ensures decided { IsDecided words.now (P.files policy.old) (P.faults policy.old) (P.faults policy.new) (P.larges policy.old) (P.larges policy.new) result.status (bytes_of_message result.text) (map file_of result.files) }
+    ensures unread { is_compile words.now ≡ false → policy.new ≡ policy.old }
 {
     if !is_compile(words) {
         return plain(alloc, 2, Message::Usage);
@@ -80,6 +85,7 @@ fn deliver<C: Folder + Target, O: TextOut>(code: &mut C, out: &mut O, answer: &A
     ensures whole { result ≢ 4 → BothTold (Grows (bytes_of_message answer.now.text)) (O.text out.old) (O.text out.new) }
     ensures part { result ≡ 4 → BothTold (GrowsPart (bytes_of_message answer.now.text)) (O.text out.old) (O.text out.new) }
     ensures silent { result ≡ 4 → out.new ≡ out.old ⊎ Rose (O.faults out.old) (O.faults out.new) }
+    ensures stops { result ≡ 4 → Stops answer.now.status (map file_of answer.now.files) (C.files code.old) (C.files code.new) (C.put_faults code.old) (C.put_faults code.new) out.old out.new (O.faults out.old) (O.faults out.new) }
 {
     if answer.status != 0 {
         return say(out, answer.status, answer.text.bytes());
@@ -139,6 +145,24 @@ pub fn run<P: Folder, C: Folder + Target, O: TextOut>(
 
     // So it is over a folder that tells no content, where no file was found too large.
     ensures answered { is_compile words.now ≡ true → NothingFailed (P.faults policy.old) (P.faults policy.new) (C.put_faults code.old) (C.put_faults code.new) (O.faults out.old) (O.faults out.new) → (Rose (P.larges policy.old) (P.larges policy.new) → ⊥) → IsTrue (result == 0 || is_either 1 5 result) }
+
+    // One status was being answered, by the files that the folder holds or, where it doesn't tell them, may hold: it is the answer, or 4 stands in its place.
+    // Its text was written, or a first part of it, and its files were put, or first ones of them. No file is put for a status but 0.
+    ensures answering { (status : ℕ) × (text : List ℕ) × (put : Files) × IsDecided words.now (P.files policy.old) (P.faults policy.old) (P.faults policy.new) (P.larges policy.old) (P.larges policy.new) status text put × Leaves status text put result code.old code.new (C.files code.old) (C.files code.new) (C.put_faults code.old) (C.put_faults code.new) out.old out.new (O.text out.old) (O.text out.new) (O.faults out.old) (O.faults out.new) }
+
+    // After words that match no form neither folder was touched, whatever is answered.
+    ensures usage { is_compile words.now ≡ false → code.new ≡ code.old }
+    ensures unread { is_compile words.now ≡ false → policy.new ≡ policy.old }
+
+    // 0 comes only where the policy has no fault in the whole table, and 1 only with the line of the first one.
+    ensures clear { result ≡ 0 → ForSome (P.files policy.old) (λ fs. HaveNone (policy_of fs) last_row) }
+    ensures first { result ≡ 1 → ForSome (P.files policy.old) (λ fs. TellsFirstFault (policy_of fs) (O.text out.old) (O.text out.new)) }
+
+    // And where the words match and nothing fails, they come by that fault, unless memory runs out.
+    ensures by_first { is_compile words.now ≡ true → NothingFailed (P.faults policy.old) (P.faults policy.new) (C.put_faults code.old) (C.put_faults code.new) (O.faults out.old) (O.faults out.new) → ForSome (P.files policy.old) (λ fs. IsByFirstFault (policy_of fs) result) }
+
+    // No file that is too large was met before another status than 9, or want of memory: so none of them stands in the place of 9.
+    ensures counted { result ≢ 4 → result ≢ 9 → result ≢ 5 → P.larges policy.new ≡ P.larges policy.old }
 
     // The policy's folder is as before.
     ensures same { P.files policy.new ≡ P.files policy.old }

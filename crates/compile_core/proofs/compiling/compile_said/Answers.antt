@@ -40,7 +40,7 @@ returns-clause-exact c =
     exact c.args.topo sources c.requires.policy c.requires.told c.requires.faultless
     (shaped_and_wired c.args.topo (map pair_of sources) c.policies_said_are_shaped.ensures c.declarations_are_formed_and_written.ensures.formed c.requires.policy
     (declared_without_fault sources c.requires.faultless))
-    c.accepted_policies_decide_exactly.ensures c.compile.result c.compile.ensures.done
+    c.accepted_policies_decide_exactly.ensures c.written_files_read_exactly.ensures c.compile.result c.compile.ensures.done
 
 pub returns-clause-names : goal.returns-clause-names
 returns-clause-names c =
