@@ -11,6 +11,8 @@ mod fault_lines;
 #[cfg(test)]
 mod folders;
 #[cfg(test)]
+mod groups;
+#[cfg(test)]
 mod lists;
 #[cfg(test)]
 mod texts;

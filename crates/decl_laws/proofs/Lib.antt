@@ -25,3 +25,4 @@ pub mod Limited
 pub mod Implied
 pub mod Spelled
 pub mod Plain
+mod Alike

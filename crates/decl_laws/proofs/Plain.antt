@@ -1,5 +1,5 @@
 -- The boxes of rules are plain: their numbers are in their ranges, and none asks for established segments alone.
-use Rattle.std.proofs.Common.{◌≡◌, ℕ, zero, suc, inl, inr, Bool, true, false, ◌||◌, cond, List, [], ◌∷◌, refl, sym, ap, subst, ◌∙◌, eqb, arith}
+use Rattle.std.proofs.Common.{◌≡◌, ℕ, zero, suc, inl, inr, Bool, true, false, ◌||◌, cond, List, [], ◌∷◌, take, refl, sym, ap, subst, ◌∙◌, eqb, arith}
 use Rattle.std.specs.Prelude.{IsTrue, Option, Some, None, option_map, flat_map, nat_lt}
 use Rattle.std.specs.List.{All, list_any, list_all}
 use Rattle.std.proofs.lemmas.Bool.{or_parts, ltb-false, eq-eqb, false≢true}
@@ -17,7 +17,7 @@ use Rattle.spoc_ast.specs.Written.{Lexeme, SimpleText, SimpleIp, SimpleTcp, Simp
 use Rattle.policy_decls.specs.Numbers.{number_of, spread, cut_at, both, port_pair_of, kind_of, icmp_of, is_bad_range, is_bad_number, is_bad_protocol, holds_of, is_bad_simple, interval_from, box_or_any, box_in}
 use Rattle.policy_decls.specs.Lookup.{first_given, or_nothing}
 use Rattle.policy_decls.specs.Shapes.{is_bad_prt, sets_in_rule, lacks_user, ask_unaligned, name_bare_port}
-use Rattle.policy_decls.specs.Said.{protocol_called, protocol_group_called, prts_of, box_of_prt, boxes_in, most_nested, rule_in, adds_of, policy_said}
+use Rattle.policy_decls.specs.Said.{protocol_called, protocol_group_called, prts_of, box_of_prt, boxes_in, most_nested, most_boxes, rule_in, adds_of, policy_said}
 use Rattle.policy_decls.specs.Faults.{fault_of}
 use Rattle.policy_decls.specs.Formed.{are_formed}
 use Rattle.decl_laws.proofs.Rows.{HasNoFault, no_rows}
@@ -25,6 +25,13 @@ use Rattle.decl_laws.proofs.Places.{at_each}
 use Rattle.decl_laws.proofs.Taken.{row_clear}
 use Rattle.decl_laws.proofs.Shaped.{none_in, shape_of}
 use Rattle.decl_laws.proofs.Equipped.{given_in}
+
+-- what is in the front of a list is in the list
+from_take : {A : Type 0} (x : A) (n : ℕ) (xs : List A) → IsIn x (take n xs) → IsIn x xs
+from_take x zero xs h = absurd h
+from_take x (suc n) [] h = absurd h
+from_take x (suc n) (y ∷ ys) (inl e) = inl e
+from_take x (suc n) (y ∷ ys) (inr h) = inr (from_take x n ys h)
 
 -- ---- one protocol
 
@@ -150,7 +157,7 @@ module _ (decls : List DeclText) (no_fault : HasNoFault decls) where
   services_plain x (ServiceDecl name desc idle user rules) h (inl e) rule g box k =
       let r = from_map (rule_in decls) rule rules (subst (λ (s : Service). IsIn rule s.rules) e g) in
       let text : RuleText = r.0 in
-      let p = from_flat_map (boxes_in decls most_nested) box text.prts (subst (λ (y : Rule). IsIn box y.boxes) r.2 k) in
+      let p = from_flat_map (boxes_in decls most_nested) box text.prts (from_take box most_boxes (flat_map (boxes_in decls most_nested) text.prts) (subst (λ (y : Rule). IsIn box y.boxes) r.2 k)) in
       let s = shape_of decls no_fault.shape (ServiceDecl name desc idle user rules) h in
       let sets = user ∷ flat_map sets_in_rule rules in
       let last : List (ℕ × Bool) = (14, list_any lacks_user rules || name_bare_port decls sets) ∷ [] in

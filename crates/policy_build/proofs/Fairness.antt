@@ -8,7 +8,7 @@ use Rattle.spoc_ast.specs.Written.{SimpleText, SimpleIp, SimpleTcp, SimpleUdp, S
 use Rattle.policy_decls.specs.Numbers.{port_pair_of, icmp_of, number_of, spread, is_bad_range, is_bad_number, is_bad_protocol, is_bad_simple, holds_of, interval_from, box_or_any, box_in}
 use Rattle.policy_decls.specs.Lookup.{first_given, or_nothing}
 use Rattle.policy_decls.specs.Shapes.{is_bad_prt}
-use Rattle.policy_decls.specs.Said.{prts_of, protocol_called, protocol_group_called, boxes_in, box_of_prt, adds_of, policy_said}
+use Rattle.policy_decls.specs.Said.{prts_of, protocol_called, protocol_group_called, boxes_in, box_of_prt, most_boxes, adds_of, policy_said}
 use Rattle.policy_build.specs.Fair.{fair_tcp, fair_udp, fair_icmp, fair_proto, fair_box, fair_boxes, fair_boxes_of, are_fair, declares_fair}
 use Rattle.policy_build.specs.Services.{services_at}
 use Rattle.policy_build.proofs.Called.{first_none, first_some}
@@ -117,7 +117,7 @@ module _ (decls : List DeclText) (fair : list_all declares_fair decls ≡ true) 
 
 -- ---- services
 
-service_is : (decls : List DeclText) (d : DeclText) → services_at decls 65 d ≡ (adds_of decls d).services
+service_is : (decls : List DeclText) (d : DeclText) → services_at decls 65 most_boxes d ≡ (adds_of decls d).services
 service_is decls (NetworkDecl name desc parts) = refl
 service_is decls (RouterDecl name desc parts) = refl
 service_is decls (GroupDecl name desc objects) = refl
@@ -128,5 +128,5 @@ service_is decls (ProtocolGroupDecl name prts) = refl
 service_is decls (RestrictionDecl name desc ports) = refl
 service_is decls (ServiceDecl name desc idle user rules) = refl
 
-pub services_are : (decls : List DeclText) → flat_map (services_at decls 65) decls ≡ (policy_said decls).services
+pub services_are : (decls : List DeclText) → flat_map (services_at decls 65 most_boxes) decls ≡ (policy_said decls).services
 services_are decls = ap (λ f. flat_map f decls) (λ i d. service_is decls d i)

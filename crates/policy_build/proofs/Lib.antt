@@ -14,3 +14,4 @@ pub mod Faultless
 pub mod Placed
 pub mod Parted
 pub mod Shared
+mod FirstBoxes

@@ -1,6 +1,6 @@
 ghost use Rattle.std.specs.Prelude.{◌≡◌, ◌<◌, ◌^◌, ◌++◌, None, length, map, IsTrue, IfOk, OnOk};
 ghost use Rattle.spoc_ast.specs.Seen.{decl_seen, file_seen};
-ghost use Rattle.policy_decls.specs.Names.{declared_names};
+ghost use Rattle.policy_decls.specs.Names.{declared_names, names_in};
 ghost use Rattle.policy_decls.specs.Faults.{fault_of};
 ghost use Rattle.policy_decls.specs.Formed.{are_formed};
 ghost use Rattle.policy_decls.specs.Spelled.{are_spelled};
@@ -14,7 +14,7 @@ use crate::policy::policy;
 use crate::scope::Scope;
 use bumpalo::Bump;
 use decl_laws::policies_said_are_sound;
-use policy_names::{NameTable, add_names};
+use policy_names::{NameTable, names_given};
 use spoc_ast::{Decl, File};
 use spoc_base::{NoMemory, Source};
 use std::alloc::Global;
@@ -22,8 +22,8 @@ use topology::Topo;
 
 /// The policy that the declarations of the files say, in the arena. The table has the names that
 /// they declare, they have no fault, their names and hardware are words, and their words stand in
-/// the sources. An error comes from want
-/// of memory alone, also where a rule has more than 4,000,000 boxes or 2^32 names are declared.
+/// the sources. An error comes from want of memory alone, also where 2^32 names are declared, or
+/// 264,000,000 protocols and groups of a rule are looked at before 4,000,001 boxes are found.
 pub fn build<'a>(
     alloc: Global,
     arena: &'a Bump,
@@ -90,12 +90,22 @@ fn build_from<'a>(
 fn are_few(alloc: Global, decls: &[Decl<'_>]) -> Result<(), NoMemory>
     ensures { OnOk result (length (declared_names (map decl_seen decls.now)) < 2 ^ 32) }
 {
-    let mut names = Vec::new(alloc);
+    let mut count: usize = 0;
     for decl in decls {
-        add_names(decl, &mut names)?;
+        count = count
+            .checked_add(count_names(alloc, decl)?)
+            .ok_or(NoMemory)?;
     }
-    if u32::try_from(names.len()).is_err() {
+    if u32::try_from(count).is_err() {
         return Err(NoMemory);
     }
     Ok(())
+}
+
+// How many names a declaration gives.
+fn count_names(alloc: Global, decl: &Decl<'_>) -> Result<usize, NoMemory>
+    ensures { IfOk result (λ count. count ≡ length (names_in (decl_seen decl.now))) }
+{
+    let names = names_given(alloc, decl)?;
+    Ok(names.len())
 }

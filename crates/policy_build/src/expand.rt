@@ -1,4 +1,4 @@
-ghost use Rattle.std.specs.Prelude.{◌≡◌, ◌++◌, ◌∷◌, [], map, flat_map, IfOk, OnOk};
+ghost use Rattle.std.specs.Prelude.{◌≡◌, ◌++◌, ◌∷◌, [], map, flat_map, take, IfOk, OnOk};
 ghost use Rattle.std.proofs.Props.{props};
 ghost use Rattle.spoc_base.specs.Shown.{box_of};
 ghost use Rattle.policy_build.specs.Protocols.{AreProtocols};
@@ -11,9 +11,6 @@ use bumpalo::collections::into_bump_slice;
 use spoc_ast::{Prt, Simple, Word};
 use spoc_base::{NoMemory, TBox};
 
-/// How many boxes one rule may have at most.
-const MOST_BOXES: usize = 4_000_000;
-
 /// How many protocols and groups are looked at for one rule at most. Below each box stand 66 of
 /// them or fewer, since groups nest 64 deep.
 const MOST_STEPS: u32 = 264_000_000;
@@ -25,6 +22,8 @@ pub(crate) struct Expander<'a, 't> {
     pub(crate) protocols: &'t Protocols<'a>,
     /// How deep groups nest at most.
     pub(crate) depth: u8,
+    /// How many boxes of a rule are kept at most.
+    pub(crate) most: usize,
     pub(crate) ghost known: { AreProtocols scope protocols.now } by { Prim.hlevel props },
 }
 
@@ -40,7 +39,7 @@ impl<'a> Boxes<'a> {
     fn step(&mut self) -> Result<(), NoMemory>
         ensures { OnOk result (self.new.found ≡ self.old.found) }
     {
-        if self.steps >= MOST_STEPS || self.found.len() >= MOST_BOXES {
+        if self.steps >= MOST_STEPS {
             return Err(NoMemory);
         }
         self.steps += 1;
@@ -63,22 +62,26 @@ impl<'a, 't> Expander<'a, 't> {
     ghost use Rattle.policy_build.specs.Views.{decls_of};
     ghost use Rattle.policy_build.specs.Fair.{fair_boxes};
 
-    /// What the protocols of a rule permit, in order and with repeats. More than 4,000,000 boxes are
-    /// answered as want of memory.
+    /// The first boxes that the protocols of a rule permit, in order and with repeats, as many as are
+    /// kept. Want of memory is also answered where more than 264,000,000 protocols and groups were
+    /// looked at before so many boxes were found.
     pub(crate) fn boxes(self, prts: &[Prt<'a>]) -> Result<&'a [TBox], NoMemory>
-        ensures { IfOk result (λ found. map box_of found.now ≡ flat_map (fair_boxes (decls_of self.entry.scope) self.entry.depth) (map prt_seen prts.now)) }
+        ensures { IfOk result (λ found. map box_of found.now ≡ take self.entry.most (flat_map (fair_boxes (decls_of self.entry.scope) self.entry.depth) (map prt_seen prts.now))) }
     {
         let mut boxes = Boxes {
             found: Vec::new(self.scope.arena),
             steps: 0,
         };
         self.add_all(self.depth, prts, &mut boxes)?;
+        boxes.found.truncate(self.most);
         Ok(into_bump_slice(boxes.found))
     }
 
+    // Adds the boxes of these protocols, or the first of them: with those that are there, as many
+    // as are kept.
     #[cycle(expand)]
     fn add_all(self, depth: u8, prts: &[Prt<'a>], boxes: &mut Boxes<'a>) -> Result<(), NoMemory>
-        ensures { OnOk result (map box_of boxes.new.found.items ≡ map box_of boxes.old.found.items ++ flat_map (fair_boxes (decls_of self.entry.scope) depth) (map prt_seen prts.now)) }
+        ensures { OnOk result (take self.entry.most (map box_of boxes.new.found.items) ≡ take self.entry.most (map box_of boxes.old.found.items ++ flat_map (fair_boxes (decls_of self.entry.scope) depth) (map prt_seen prts.now))) }
     {
         for prt in prts {
             self.add(depth, prt, boxes)?;
@@ -88,8 +91,11 @@ impl<'a, 't> Expander<'a, 't> {
 
     #[cycle(expand)]
     fn add(self, depth: u8, prt: &Prt<'a>, boxes: &mut Boxes<'a>) -> Result<(), NoMemory>
-        ensures { OnOk result (map box_of boxes.new.found.items ≡ map box_of boxes.old.found.items ++ fair_boxes (decls_of self.entry.scope) depth (prt_seen prt.now)) }
+        ensures { OnOk result (take self.entry.most (map box_of boxes.new.found.items) ≡ take self.entry.most (map box_of boxes.old.found.items ++ fair_boxes (decls_of self.entry.scope) depth (prt_seen prt.now))) }
     {
+        if boxes.found.len() >= self.most {
+            return Ok(());
+        }
         boxes.step()?;
         match prt {
             Prt::Simple(simple) => self.add_simple(depth, simple, boxes),
@@ -100,7 +106,7 @@ impl<'a, 't> Expander<'a, 't> {
 
     #[cycle(expand)]
     fn add_group(self, depth: u8, name: Word<'a>, boxes: &mut Boxes<'a>) -> Result<(), NoMemory>
-        ensures { OnOk result (map box_of boxes.new.found.items ≡ map box_of boxes.old.found.items ++ fair_boxes (decls_of self.entry.scope) depth (PrtGroup (word_seen name.entry))) }
+        ensures { OnOk result (take self.entry.most (map box_of boxes.new.found.items) ≡ take self.entry.most (map box_of boxes.old.found.items ++ fair_boxes (decls_of self.entry.scope) depth (PrtGroup (word_seen name.entry)))) }
     {
         if depth == 0 {
             return Ok(());

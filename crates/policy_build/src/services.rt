@@ -1,7 +1,7 @@
 ghost use Rattle.std.specs.Prelude.{◌≡◌, ◌++◌, [], ◌∷◌, true, map, flat_map, IfOk, OnOk};
 ghost use Rattle.std.specs.List.{All, list_all};
 ghost use Rattle.spoc_ast.specs.Seen as ast;
-ghost use Rattle.policy_decls.specs.Said.{policy_said};
+ghost use Rattle.policy_decls.specs.Said.{most_boxes, policy_said};
 ghost use Rattle.spoc_base.specs.declared.place.Kind.TheVariants as kind;
 ghost use Rattle.topology.specs.Texts.{IsCalled};
 ghost use Rattle.topology.specs.Seen.{rule_seen, service_seen};
@@ -35,13 +35,21 @@ pub(crate) fn services<'a>(scope: Scope<'a, '_>) -> Result<&'a [Service<'a>], No
         scope,
         protocols: &protocols,
         depth: MOST_NESTED,
+        most: most_kept(),
     })
+}
+
+// How many protocols of a rule are kept at most: one more than there may be permits.
+fn most_kept() -> usize
+    ensures { result ≡ most_boxes }
+{
+    4_000_001
 }
 
 fn services_by<'a>(by: Expander<'a, '_>) -> Result<&'a [Service<'a>], NoMemory>
     requires good { All (IsGood (sources_in by.scope)) (decls_of by.scope) }
     requires fair { list_all declares_fair (decls_of by.scope) ≡ true }
-    ensures said { IfOk result (λ services. map (service_seen (sources_in by.entry.scope)) services.now ≡ flat_map (services_at (decls_of by.entry.scope) by.entry.depth) (decls_of by.entry.scope)) }
+    ensures said { IfOk result (λ services. map (service_seen (sources_in by.entry.scope)) services.now ≡ flat_map (services_at (decls_of by.entry.scope) by.entry.depth by.entry.most) (decls_of by.entry.scope)) }
     ensures written { IfOk result (λ services. All (λ x. IsCalled kind.Service (sources_in by.entry.scope) x.name) services.now) }
 {
     let mut found = Vec::new(by.scope.arena);
@@ -59,7 +67,7 @@ fn add_service<'a>(
     requires good { IsGood (sources_in by.scope) (ast.decl_seen decl.now) }
     requires fair { list_all declares_fair (decls_of by.scope) ≡ true }
     requires written { All (λ x. IsCalled kind.Service (sources_in by.scope) x.name) found.old.items }
-    ensures said { OnOk result (map (service_seen (sources_in by.entry.scope)) found.new.items ≡ map (service_seen (sources_in by.entry.scope)) found.old.items ++ services_at (decls_of by.entry.scope) by.entry.depth (ast.decl_seen decl.now)) }
+    ensures said { OnOk result (map (service_seen (sources_in by.entry.scope)) found.new.items ≡ map (service_seen (sources_in by.entry.scope)) found.old.items ++ services_at (decls_of by.entry.scope) by.entry.depth by.entry.most (ast.decl_seen decl.now)) }
     ensures written { OnOk result (All (λ x. IsCalled kind.Service (sources_in by.entry.scope) x.name) found.new.items) }
 {
     let Decl::Service {
@@ -88,7 +96,7 @@ fn add_service<'a>(
 fn rules_of<'a>(by: Expander<'a, '_>, rules: &[RuleTree<'a>]) -> Result<&'a [Rule<'a>], NoMemory>
     requires good { All IsGoodRule (map ast.rule_seen rules.now) }
     requires fair { list_all declares_fair (decls_of by.scope) ≡ true }
-    ensures { IfOk result (λ found. map rule_seen found.now ≡ map (rule_at (decls_of by.entry.scope) by.entry.depth) (map ast.rule_seen rules.now)) }
+    ensures { IfOk result (λ found. map rule_seen found.now ≡ map (rule_at (decls_of by.entry.scope) by.entry.depth by.entry.most) (map ast.rule_seen rules.now)) }
 {
     let mut found = Vec::new(by.scope.arena);
     for rule in rules {
@@ -104,7 +112,7 @@ fn add_rule<'a>(
 ) -> Result<(), NoMemory>
     requires good { IsGoodRule (ast.rule_seen rule.now) }
     requires fair { list_all declares_fair (decls_of by.scope) ≡ true }
-    ensures { OnOk result (map rule_seen found.new.items ≡ map rule_seen found.old.items ++ rule_at (decls_of by.entry.scope) by.entry.depth (ast.rule_seen rule.now) ∷ []) }
+    ensures { OnOk result (map rule_seen found.new.items ≡ map rule_seen found.old.items ++ rule_at (decls_of by.entry.scope) by.entry.depth by.entry.most (ast.rule_seen rule.now) ∷ []) }
 {
     let rule = rule_of(by, rule)?;
     let Ok(()) = found.push(rule) else {
@@ -116,7 +124,7 @@ fn add_rule<'a>(
 fn rule_of<'a>(by: Expander<'a, '_>, rule: &RuleTree<'a>) -> Result<Rule<'a>, NoMemory>
     requires good { IsGoodRule (ast.rule_seen rule.now) }
     requires fair { list_all declares_fair (decls_of by.scope) ≡ true }
-    ensures { IfOk result (λ found. rule_seen found ≡ rule_at (decls_of by.entry.scope) by.entry.depth (ast.rule_seen rule.now)) }
+    ensures { IfOk result (λ found. rule_seen found ≡ rule_at (decls_of by.entry.scope) by.entry.depth by.entry.most (ast.rule_seen rule.now)) }
 {
     let src = union(by.scope, &rule.src)?;
     let dst = union(by.scope, &rule.dst)?;

@@ -1,5 +1,5 @@
 -- The policy that declarations say.
-use Rattle.std.specs.Prelude.{ℕ, zero, suc, Bool, List, [], ◌∷◌, ◌++◌, map, flat_map, filter, position, slice_get, slice_index_or, Option, Some, None, option_map, option_and_then, if◌then◌else◌, codes}
+use Rattle.std.specs.Prelude.{ℕ, zero, suc, Bool, List, [], ◌∷◌, ◌++◌, map, flat_map, take, filter, position, slice_get, slice_index_or, Option, Some, None, option_map, option_and_then, if◌then◌else◌, codes}
 use Rattle.std.specs.Str.{bytes_eq}
 use Rattle.std.specs.List.{list_any}
 use Rattle.spoc_base.specs.Address.{Cidr, Interval, any_address}
@@ -156,8 +156,18 @@ abbrev pub expr_or_none : List DeclText → Option SetText → ObjectExpr
 expr_or_none decls None = NoObjects
 expr_or_none decls (Some e) = expr_in decls e
 
+-- At most so many protocols of a rule are kept: one more than there may be permits. A rule with more of them is over the limit with what is kept, unless
+-- it lists nothing at all.
+unfoldable pub most_boxes : ℕ
+most_boxes = 4000001
+
+-- a rule with all protocols that it names, in order and with repeats
+abbrev pub whole_rule : List DeclText → RuleText → plain.Rule
+whole_rule decls rule = record { deny = rule.deny; src = expr_in decls rule.src; dst = expr_in decls rule.dst; boxes = flat_map (boxes_in decls most_nested) rule.prts }
+
+-- the rule as a policy holds it
 abbrev pub rule_in : List DeclText → RuleText → plain.Rule
-rule_in decls rule = record { deny = rule.deny; src = expr_in decls rule.src; dst = expr_in decls rule.dst; boxes = flat_map (boxes_in decls most_nested) rule.prts }
+rule_in decls rule = record { deny = rule.deny; src = expr_in decls rule.src; dst = expr_in decls rule.dst; boxes = take most_boxes (flat_map (boxes_in decls most_nested) rule.prts) }
 
 abbrev pub adds_of : List DeclText → DeclText → Adds
 adds_of decls (NetworkDecl name desc parts) = record {

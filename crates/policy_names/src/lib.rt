@@ -14,7 +14,7 @@ pub mod unknown;
 pub mod uses;
 
 pub use mention::{Mention, NameKind};
-pub use names::add_names;
+pub use names::names_given;
 pub use table::{NameTable, name_table};
 pub use unknown::first_unknown;
-pub use uses::add_uses;
+pub use uses::names_used;

@@ -1,15 +1,25 @@
-ghost use Rattle.std.specs.Prelude.{◌≡◌, map, flat_map, ◌∷◌, ◌++◌, [], OnOk};
+ghost use Rattle.std.specs.Prelude.{◌≡◌, map, flat_map, ◌∷◌, ◌++◌, [], IfOk, OnOk};
 ghost use Rattle.spoc_ast.specs.Seen.{word_seen, port_seen, net_part_seen, rout_part_seen, decl_seen};
 ghost use Rattle.policy_decls.specs.Names as plain;
-ghost use Rattle.policy_names.specs.Seen.{kind_seen, GrowsBy};
+ghost use Rattle.policy_names.specs.Seen.{kind_seen, mention_seen, GrowsBy};
 
 use crate::mention::{Mention, NameKind};
 use spoc_ast::{Decl, NetPart, PortName, RoutPart, Word};
 use spoc_base::NoMemory;
+use std::alloc::Global;
 
-/// Adds the names that a declaration gives, in the order in which they stand. An error comes from
-/// want of memory alone.
-pub fn add_names<'a>(decl: &Decl<'a>, found: &mut Vec<Mention<'a>>) -> Result<(), NoMemory>
+/// The names that a declaration gives, in the order in which they stand. An error comes from want
+/// of memory alone.
+pub fn names_given<'a>(alloc: Global, decl: &Decl<'a>) -> Result<Vec<Mention<'a>>, NoMemory>
+    ensures { IfOk result (λ names. map mention_seen names.items ≡ plain.names_in (decl_seen decl.now)) }
+{
+    let mut names = Vec::new(alloc);
+    add_names(decl, &mut names)?;
+    Ok(names)
+}
+
+// Adds the names that a declaration gives.
+pub(crate) fn add_names<'a>(decl: &Decl<'a>, found: &mut Vec<Mention<'a>>) -> Result<(), NoMemory>
     ensures { OnOk result (GrowsBy (plain.names_in (decl_seen decl.now)) found.old.items found.new.items) }
 {
     match decl {

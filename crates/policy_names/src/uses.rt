@@ -1,18 +1,28 @@
-ghost use Rattle.std.specs.Prelude.{◌≡◌, map, flat_map, option_map, ◌∷◌, ◌++◌, [], OnOk};
+ghost use Rattle.std.specs.Prelude.{◌≡◌, map, flat_map, option_map, ◌∷◌, ◌++◌, [], IfOk, OnOk};
 ghost use Rattle.spoc_ast.specs.Seen.{word_seen, port_seen, set_seen, if_part_seen, rout_part_seen, area_part_seen, any_part_seen, prt_seen, rule_seen, decl_seen};
 ghost use Rattle.policy_decls.specs.Names as plain;
 ghost use Rattle.policy_decls.specs.Uses.{uses_in, uses_in_set, uses_in_objects, uses_in_prt, uses_in_if_part, uses_in_rout_part, uses_in_area_part, uses_in_any_part, uses_in_rule};
-ghost use Rattle.policy_names.specs.Seen.{GrowsBy};
+ghost use Rattle.policy_names.specs.Seen.{mention_seen, GrowsBy};
 
 use crate::mention::{Mention, NameKind};
 use crate::names::{add_plain, add_port};
 use crate::sets::add_set;
 use spoc_ast::{AnyPart, AreaPart, Decl, IfPart, PortName, Prt, RoutPart, RuleTree, SetTree, Word};
 use spoc_base::NoMemory;
+use std::alloc::Global;
 
-/// Adds the names that a declaration uses, in the order in which they stand. Parts without effect
-/// use none. An error comes from want of memory alone.
-pub fn add_uses<'a>(decl: &Decl<'a>, found: &mut Vec<Mention<'a>>) -> Result<(), NoMemory>
+/// The names that a declaration uses, in the order in which they stand. Parts without effect use
+/// none. An error comes from want of memory alone.
+pub fn names_used<'a>(alloc: Global, decl: &Decl<'a>) -> Result<Vec<Mention<'a>>, NoMemory>
+    ensures { IfOk result (λ names. map mention_seen names.items ≡ uses_in (decl_seen decl.now)) }
+{
+    let mut names = Vec::new(alloc);
+    add_uses(decl, &mut names)?;
+    Ok(names)
+}
+
+// Adds the names that a declaration uses.
+pub(crate) fn add_uses<'a>(decl: &Decl<'a>, found: &mut Vec<Mention<'a>>) -> Result<(), NoMemory>
     ensures { OnOk result (GrowsBy (uses_in (decl_seen decl.now)) found.old.items found.new.items) }
 {
     match decl {

@@ -7,7 +7,7 @@ ghost use Rattle.policy_decls.specs.Nesting.{is_nesting, nesting_names};
 ghost use Rattle.policy_names.specs.Tables.{of_kind};
 ghost use Rattle.policy_nesting.specs.Nodes.{kind_of, is_node, used_of};
 
-use policy_names::{Mention, NameKind, NameTable, add_names, add_uses};
+use policy_names::{Mention, NameKind, NameTable, names_given, names_used};
 use spoc_ast::{Decl, File};
 use spoc_base::{NoMemory, Row};
 use std::alloc::Global;
@@ -48,28 +48,48 @@ pub(crate) fn nodes<'a>(alloc: Global, files: &[File<'a>]) -> Result<Vec<Mention
 {
     let mut found = Vec::new(alloc);
     for file in files {
-        add_nodes(file, &mut found)?;
+        add_nodes(alloc, file, &mut found)?;
     }
     Ok(found)
 }
 
-fn add_nodes<'a>(file: &File<'a>, found: &mut Vec<Mention<'a>>) -> Result<(), NoMemory>
+fn add_nodes<'a>(
+    alloc: Global,
+    file: &File<'a>,
+    found: &mut Vec<Mention<'a>>,
+) -> Result<(), NoMemory>
     ensures { OnOk result (GrowsBy (nesting_names (file_seen file.now)) found.old.items found.new.items) }
 {
     for decl in file.decls {
-        add_node(decl, found)?;
+        add_node(alloc, decl, found)?;
     }
     Ok(())
 }
 
-fn add_node<'a>(decl: &Decl<'a>, found: &mut Vec<Mention<'a>>) -> Result<(), NoMemory>
+fn add_node<'a>(
+    alloc: Global,
+    decl: &Decl<'a>,
+    found: &mut Vec<Mention<'a>>,
+) -> Result<(), NoMemory>
     ensures { OnOk result (GrowsBy (filter is_nesting (plain.names_in (decl_seen decl.now))) found.old.items found.new.items) }
 {
     if declares(Nesting::Objects, decl) {
-        return add_names(decl, found);
+        let names = names_given(alloc, decl)?;
+        return append(&names, found);
     }
     if declares(Nesting::Protocols, decl) {
-        return add_names(decl, found);
+        let names = names_given(alloc, decl)?;
+        return append(&names, found);
+    }
+    Ok(())
+}
+
+// Puts these names behind the others.
+fn append<'a>(names: &[Mention<'a>], found: &mut Vec<Mention<'a>>) -> Result<(), NoMemory>
+    ensures { OnOk result (GrowsBy (map mention_seen names.now) found.old.items found.new.items) }
+{
+    for name in names {
+        found.push(*name)?;
     }
     Ok(())
 }
@@ -83,8 +103,7 @@ pub(crate) fn row_of(
 ) -> Result<Row<u32>, NoMemory>
     ensures { IfOk result (λ row. row ≡ map (number_among (of_kind table.now (kind_of nesting))) (used_of nesting (decl_seen decl.now))) }
 {
-    let mut names = Vec::new(alloc);
-    add_uses(decl, &mut names)?;
+    let names = names_used(alloc, decl)?;
     let mut numbers = Vec::new(alloc);
     for name in &names {
         add_number(table, nesting, name, &mut numbers)?;

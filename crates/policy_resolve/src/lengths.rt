@@ -6,7 +6,7 @@ ghost use Rattle.policy_decls.specs.Limits as plain;
 ghost use Rattle.policy_names.specs.Seen.{mention_seen};
 ghost use Rattle.policy_resolve.specs.Lengths.{is_long, is_long_name, is_long_part, is_long_iface, has_long_word};
 
-use policy_names::{Mention, add_names};
+use policy_names::{Mention, names_given};
 use spoc_ast::{Decl, IfPart, RoutPart};
 use spoc_base::NoMemory;
 use std::alloc::Global;
@@ -38,8 +38,7 @@ fn any_long_word(alloc: Global, decls: &[Decl<'_>]) -> Result<bool, NoMemory>
 fn has_long_word(alloc: Global, decl: &Decl<'_>) -> Result<bool, NoMemory>
     ensures { IfOk result (λ long. long ≡ has_long_word (decl_seen decl.now)) }
 {
-    let mut names = Vec::new(alloc);
-    add_names(decl, &mut names)?;
+    let names = names_given(alloc, decl)?;
     if any_long_name(&names) {
         return Ok(true);
     }

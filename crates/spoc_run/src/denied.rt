@@ -390,6 +390,28 @@ protocolgroup:p6 = protocolgroup:p5, protocolgroup:p5, protocolgroup:p5, protoco
 protocolgroup:p7 = protocolgroup:p6, protocolgroup:p6, protocolgroup:p6, protocolgroup:p6;
 ";
 
+// The last one has 4,194,304 protocols.
+const FOURFOLD_ON: &str = "\
+protocolgroup:p8 = protocolgroup:p7, protocolgroup:p7, protocolgroup:p7, protocolgroup:p7;
+protocolgroup:p9 = protocolgroup:p8, protocolgroup:p8, protocolgroup:p8, protocolgroup:p8;
+protocolgroup:p10 = protocolgroup:p9, protocolgroup:p9, protocolgroup:p9, protocolgroup:p9;
+protocolgroup:p11 = protocolgroup:p10, protocolgroup:p10, protocolgroup:p10, protocolgroup:p10;
+";
+
+const MANY_PROTOCOLS: &str = "\
+service:s1 = {
+ user = host:a0;
+ permit src = user; dst = host:b0; prt = protocolgroup:p11;
+}
+";
+
+const MANY_PROTOCOLS_TO_NONE: &str = "\
+service:s1 = {
+ user = host:a0;
+ permit src = user; dst = group:g1 & group:g2; prt = protocolgroup:p11;
+}
+";
+
 const MANY_PERMITS: &str = "\
 service:s1 = {
  user = group:g1;
@@ -443,5 +465,46 @@ static TOO_MANY: [Case; 3] = [
 #[test]
 fn too_many_are_refused(rt: HostRuntime) -> Result<(), Fail> {
     check_all(&rt, rt.alloc(), &TOO_MANY)?;
+    Ok(())
+}
+
+static TOO_MANY_PROTOCOLS: [Case; 2] = [
+    // One rule from one host to one, with more protocols than there may be permits.
+    Case {
+        files: &[(
+            "p",
+            &[
+                SIXTEEN_HOSTS,
+                ONE_ROUTER,
+                FOURFOLD,
+                FOURFOLD_ON,
+                MANY_PROTOCOLS,
+            ],
+        )],
+        status: 1,
+        text: "fault Limit permits\n",
+        ..CASE
+    },
+    // So many protocols to no destination permit nothing.
+    Case {
+        files: &[(
+            "p",
+            &[
+                SIXTEEN_HOSTS,
+                ONE_ROUTER,
+                FOURFOLD,
+                FOURFOLD_ON,
+                MANY_PROTOCOLS_TO_NONE,
+            ],
+        )],
+        text: "networks 2\nzones 2\nrouters 1\npermits 0\nlocal 0\nlines 2\nroutes 0\n",
+        only_text: true,
+        ..CASE
+    },
+];
+
+#[test]
+fn too_many_protocols_are_permits(rt: HostRuntime) -> Result<(), Fail> {
+    check_all(&rt, rt.alloc(), &TOO_MANY_PROTOCOLS)?;
     Ok(())
 }

@@ -10,4 +10,4 @@ add_rule-requires-clause-good c = rule_good c.args.rules.now c.loop-rule.rule-in
 
 pub loop-rule-preserved : goal.loop-rule-preserved
 loop-rule-preserved c =
-    more_twice_mapped (rule_at (decls_of c.args.by.scope) c.args.by.depth) ast.rule_seen c.args.rules.now c.loop-rule.rule-index _ c.loop-rule-test.true _ _ _ c.loop-rule.invariant c.in_ok-add_rule.ensures
+    more_twice_mapped (rule_at (decls_of c.args.by.scope) c.args.by.depth c.args.by.most) ast.rule_seen c.args.rules.now c.loop-rule.rule-index _ c.loop-rule-test.true _ _ _ c.loop-rule.invariant c.in_ok-add_rule.ensures

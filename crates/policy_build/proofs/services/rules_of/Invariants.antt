@@ -7,4 +7,4 @@ use Rattle.policy_build.proofs.services.rules_of.Given as goal
 
 abbrev pub invariant-loop-rule : goal.invariant-loop-rule
 invariant-loop-rule l =
-    map rule_seen l.found.items ++ map (rule_at (decls_of l.by.scope) l.by.depth) (map ast.rule_seen (drop l.rule-index l.rules)) ≡ map (rule_at (decls_of l.by.scope) l.by.depth) (map ast.rule_seen l.rules)
+    map rule_seen l.found.items ++ map (rule_at (decls_of l.by.scope) l.by.depth l.by.most) (map ast.rule_seen (drop l.rule-index l.rules)) ≡ map (rule_at (decls_of l.by.scope) l.by.depth l.by.most) (map ast.rule_seen l.rules)

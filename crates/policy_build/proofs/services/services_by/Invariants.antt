@@ -10,6 +10,6 @@ use Rattle.policy_build.proofs.services.services_by.Given as goal
 
 abbrev pub invariant-loop-decl : goal.invariant-loop-decl
 invariant-loop-decl l = record {
-  said : map (service_seen (sources_in l.by.scope)) l.found.items ++ flat_map (services_at (decls_of l.by.scope) l.by.depth) (map decl_seen (drop l.decl-index l.decl-items)) ≡ flat_map (services_at (decls_of l.by.scope) l.by.depth) (decls_of l.by.scope);
+  said : map (service_seen (sources_in l.by.scope)) l.found.items ++ flat_map (services_at (decls_of l.by.scope) l.by.depth l.by.most) (map decl_seen (drop l.decl-index l.decl-items)) ≡ flat_map (services_at (decls_of l.by.scope) l.by.depth l.by.most) (decls_of l.by.scope);
   written : All (λ x. IsCalled kind.Service (sources_in l.by.scope) x.name) l.found.items;
 }

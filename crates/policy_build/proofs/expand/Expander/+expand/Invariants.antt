@@ -1,4 +1,4 @@
-use Rattle.std.proofs.Common.{◌≡◌, ◌+◌, ◌*◌, map, flat_map, drop, ◌++◌}
+use Rattle.std.proofs.Common.{◌≡◌, ◌+◌, ◌*◌, map, flat_map, take, drop, ◌++◌}
 use Rattle.spoc_base.specs.Shown.{box_of}
 use Rattle.spoc_ast.specs.Seen.{prt_seen}
 use Rattle.policy_build.specs.Views.{decls_of}
@@ -16,5 +16,5 @@ decreases-add_group l = 3 * l.depth
 
 abbrev pub invariant-add_all-loop-prt : goal.invariant-add_all-loop-prt
 invariant-add_all-loop-prt l =
-    map box_of l.boxes.found.items ++ flat_map (fair_boxes (decls_of l.self.scope) l.depth) (map prt_seen (drop l.prt-index l.prts))
-    ≡ map box_of l.fn.boxes.found.items ++ flat_map (fair_boxes (decls_of l.self.scope) l.depth) (map prt_seen l.prts)
+    take l.self.most (map box_of l.boxes.found.items ++ flat_map (fair_boxes (decls_of l.self.scope) l.depth) (map prt_seen (drop l.prt-index l.prts)))
+    ≡ take l.self.most (map box_of l.fn.boxes.found.items ++ flat_map (fair_boxes (decls_of l.self.scope) l.depth) (map prt_seen l.prts))

@@ -1,0 +1,4 @@
+pub mod Ends
+pub mod RunSteps
+pub mod Kept
+pub mod Turns
