@@ -1,7 +1,7 @@
 // Lists whose lines are joined, with groups of prefixes.
-use crate::lists::{Kind, Row, lines_of, prefix};
+use crate::lists::{Cells, Kind, compare_lines, lines_of, prefix, rows_of};
 use bumpalo::Bump;
-use dev_config::{Line, List};
+use dev_config::List;
 use object_groups::group;
 use spoc_base::{NoMemory, Prefix};
 use std::alloc::Global;
@@ -36,9 +36,6 @@ const X_X: usize = 11;
 const TCP: Kind = Kind::Tcp((0, 65535), (0, 65535), false);
 
 const UDP: Kind = Kind::Udp((0, 65535), (0, 65535));
-
-// A line: whether it permits, its ends, and its transports.
-type Cells = (bool, usize, usize, Kind);
 
 // Lines, and those that come out.
 static JOINED: [(&'static [Cells], &'static [Cells]); 9] = [
@@ -94,28 +91,6 @@ static JOINED: [(&'static [Cells], &'static [Cells]); 9] = [
         &[(true, A, X_Y, TCP), (true, B, Y_X, TCP)],
     ),
 ];
-
-fn rows_of(alloc: Global, cells: &[Cells]) -> Result<Vec<Row>, NoMemory> {
-    let mut rows = Vec::new(alloc);
-    for (permit, src, dst, kind) in cells {
-        rows.push(Row {
-            permit: *permit,
-            src: *src,
-            dst: *dst,
-            kind: *kind,
-        })?;
-    }
-    Ok(rows)
-}
-
-fn compare_lines(rt: &impl Abort, found: &[Line<'_>], wanted: &[Line<'_>]) {
-    assert_eq!(rt; found.len(), wanted.len());
-    for (one, other) in found.iter().zip(wanted) {
-        assert!(rt; one.permit == other.permit && one.t == other.t);
-        assert_eq!(rt; one.src, other.src);
-        assert_eq!(rt; one.dst, other.dst);
-    }
-}
 
 fn compare(
     rt: &impl Abort,

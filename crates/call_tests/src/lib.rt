@@ -15,6 +15,8 @@ mod groups;
 #[cfg(test)]
 mod lists;
 #[cfg(test)]
+mod optimised;
+#[cfg(test)]
 mod texts;
 #[cfg(test)]
 mod trees;

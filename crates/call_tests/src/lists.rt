@@ -23,6 +23,9 @@ pub(crate) struct Row {
     pub(crate) kind: Kind,
 }
 
+// A line: whether it permits, its ends, and its transports.
+pub(crate) type Cells = (bool, usize, usize, Kind);
+
 pub(crate) fn prefix(rt: &impl Abort, net: u32, len: u8) -> Prefix {
     Prefix::new(Addr(net), len).expect(rt, "no host bit is set")
 }
@@ -69,4 +72,26 @@ pub(crate) fn lines_of<'p>(
         };
     }
     Ok(lines)
+}
+
+pub(crate) fn rows_of(alloc: Global, cells: &[Cells]) -> Result<Vec<Row>, NoMemory> {
+    let mut rows = Vec::new(alloc);
+    for (permit, src, dst, kind) in cells {
+        rows.push(Row {
+            permit: *permit,
+            src: *src,
+            dst: *dst,
+            kind: *kind,
+        })?;
+    }
+    Ok(rows)
+}
+
+pub(crate) fn compare_lines(rt: &impl Abort, found: &[Line<'_>], wanted: &[Line<'_>]) {
+    assert_eq!(rt; found.len(), wanted.len());
+    for (one, other) in found.iter().zip(wanted) {
+        assert!(rt; one.permit == other.permit && one.t == other.t);
+        assert_eq!(rt; one.src, other.src);
+        assert_eq!(rt; one.dst, other.dst);
+    }
 }

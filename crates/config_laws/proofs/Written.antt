@@ -36,7 +36,7 @@ static_managed (x ∷ routers) zero h = go x.name x.device h
     go name None h = absurd (false≢true h)
     go name (Some d) h = refl
 
-lines_alike : (m : Meaning) → AreSecured m.site m.views (permits_in m) → (i : ℕ) → i < length m.site.policy.ifaces → (b : Bool) →
+pub lines_alike : (m : Meaning) → AreSecured m.site m.views (permits_in m) → (i : ℕ) → i < length m.site.policy.ifaces → (b : Bool) →
     PassAlike (list_at m.site m.views (permits_in m) i)
     (cond b (grouped_lines (optimised_lines (list_at m.site m.views (permits_in m) i))) (optimised_lines (list_at m.site m.views (permits_in m) i)))
 lines_alike m ok i below false = (list_optimised m.site m.views (permits_in m) i (ok.lists i below)).alike

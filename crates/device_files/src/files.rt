@@ -6,6 +6,7 @@ ghost use Rattle.device_files.specs.Seen.{file_of};
 
 use crate::router::{count, dialect, is_managed, lists_of, name, ports, router_count};
 use acl_print::print;
+use bumpalo::Bump;
 use dev_config::{Config, List};
 use spoc_base::{NoMemory, RouterId, Row, Text};
 use std::alloc::Global;
@@ -18,7 +19,8 @@ pub struct DeviceFile {
     pub bytes: Text,
 }
 
-/// The files of managed routers, in the order of the routers, and how many lines their lists have.
+/// The files of managed routers, in the order of the routers, and how many lines their lists have as
+/// they are written.
 #[derive(Debug, Drop)]
 pub struct DeviceFiles {
     pub files: Row<DeviceFile>,
@@ -26,10 +28,11 @@ pub struct DeviceFiles {
 }
 
 // The file of a router with these lists, and how many lines they have.
-fn file(
+fn file<'s>(
     alloc: Global,
+    scratch: &'s Bump,
     topo: Topo<'_>,
-    lists: &[List<'_>],
+    lists: &[List<'s>],
     r: RouterId,
 ) -> Result<(DeviceFile, u64), NoMemory>
     requires there { r.0 < length (policy_of topo).routers }
@@ -38,7 +41,7 @@ fn file(
     ensures lines { IfOk result (λ made. made.1 ≡ lines_in (config_for (policy_of topo.entry) (map lines_of lists.now) r.0)) }
 {
     let ports = ports(alloc, topo, r)?;
-    let own = lists_of(alloc, topo, lists, r)?;
+    let own = lists_of(alloc, scratch, topo, lists, r)?;
     let lines = count(&own)?;
     let config = Config {
         lists: &own,
@@ -50,10 +53,11 @@ fn file(
 }
 
 // Adds the file of a router, where it is managed.
-fn add_file(
+fn add_file<'s>(
     alloc: Global,
+    scratch: &'s Bump,
     topo: Topo<'_>,
-    lists: &[List<'_>],
+    lists: &[List<'s>],
     r: RouterId,
     files: &mut Vec<DeviceFile>,
     total: &mut u64,
@@ -66,7 +70,7 @@ fn add_file(
     if !is_managed(topo, r) {
         return Ok(());
     }
-    let (file, lines) = file(alloc, topo, lists, r)?;
+    let (file, lines) = file(alloc, scratch, topo, lists, r)?;
     let Some(sum) = total.checked_add(lines) else {
         return Err(NoMemory);
     };
@@ -76,12 +80,14 @@ fn add_file(
 }
 
 /// The file of each managed router, in the order of the routers. `lists` has the access list of
-/// each interface, by number; those of routers that aren't managed are not looked at. Routes are
-/// not written yet.
-pub fn device_files(
+/// each interface, by number; those of routers that aren't managed are not looked at. A list is
+/// written without needless lines, and on an ASA with neighbouring lines joined and their ends
+/// grouped. Shortened lists lie in `scratch`. Routes are not written yet.
+pub fn device_files<'s>(
     alloc: Global,
+    scratch: &'s Bump,
     topo: Topo<'_>,
-    lists: &[List<'_>],
+    lists: &[List<'s>],
 ) -> Result<DeviceFiles, NoMemory>
     requires each { length lists.now ≡ length (policy_of topo).ifaces }
     ensures files { IfOk result (λ made. map file_of made.files ≡ files_for (policy_of topo.entry) (map lines_of lists.now)) }
@@ -90,7 +96,15 @@ pub fn device_files(
     let mut files = Vec::new(alloc);
     let mut lines = 0;
     for r in 0..router_count(topo) {
-        add_file(alloc, topo, lists, RouterId(r), &mut files, &mut lines)?;
+        add_file(
+            alloc,
+            scratch,
+            topo,
+            lists,
+            RouterId(r),
+            &mut files,
+            &mut lines,
+        )?;
     }
     Ok(DeviceFiles {
         files: Row::of(files),

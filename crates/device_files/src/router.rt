@@ -4,9 +4,13 @@ ghost use Rattle.policy_model.specs.Tags.{ifaces_of};
 ghost use Rattle.acl_print.specs.Seen.{port_seen};
 ghost use Rattle.dev_config.specs.Seen.{lines_of};
 ghost use Rattle.topology.specs.View.{policy_of};
-ghost use Rattle.policy_outcome.specs.Files.{dialect_of, port_of};
+ghost use Rattle.policy_model.specs.Blocks.{is_grouped_at};
+ghost use Rattle.policy_outcome.specs.Files.{dialect_of, port_of, as_written};
 
+use bumpalo::Bump;
 use dev_config::{List, Port};
+use local_optimise::optimise;
+use object_groups::group;
 use spoc_base::{Dialect, IfId, Named, NoMemory, RouterId};
 use std::alloc::Global;
 use topology::Topo;
@@ -74,21 +78,52 @@ fn list_at<'s>(lists: &[List<'s>], i: IfId) -> List<'s>
     lists[i.0 as usize]
 }
 
-/// The lists of a router's interfaces, in order.
+// Whether neighbouring lines of the list of an interface are joined.
+fn is_grouped(topo: Topo<'_>, i: IfId) -> bool
+    requires { i.0 < length (policy_of topo).ifaces }
+    ensures { result ≡ is_grouped_at (policy_of topo.entry) i.0 }
+{
+    match topo.router(topo.iface(i).router).device {
+        None => false,
+        Some(device) => device.dialect.is_grouped(),
+    }
+}
+
+// The list of an interface as it is written.
+fn written<'s>(
+    alloc: Global,
+    scratch: &'s Bump,
+    topo: Topo<'_>,
+    list: &List<'s>,
+    i: IfId,
+) -> Result<List<'s>, NoMemory>
+    requires { i.0 < length (policy_of topo).ifaces }
+    ensures { IfOk result (λ new. lines_of new ≡ as_written (policy_of topo.entry) i.0 (lines_of list.now)) }
+{
+    let short = optimise(alloc, scratch, list)?;
+    if is_grouped(topo, i) {
+        return group(alloc, scratch, &short);
+    }
+    Ok(short)
+}
+
+/// The lists of a router's interfaces as they are written, in order.
 pub(crate) fn lists_of<'s>(
     alloc: Global,
+    scratch: &'s Bump,
     topo: Topo<'_>,
     lists: &[List<'s>],
     r: RouterId,
 ) -> Result<Vec<List<'s>>, NoMemory>
     requires there { r.0 < length (policy_of topo).routers }
     requires each { length lists.now ≡ length (policy_of topo).ifaces }
-    ensures { IfOk result (λ found. map lines_of found.items ≡ map (λ i. slice_index_or (map lines_of lists.now) i []) (ifaces_of (policy_of topo.entry) r.0)) }
+    ensures { IfOk result (λ found. map lines_of found.items ≡ map (λ i. as_written (policy_of topo.entry) i (slice_index_or (map lines_of lists.now) i [])) (ifaces_of (policy_of topo.entry) r.0)) }
 {
     let mut found = Vec::new(alloc);
     let row = topo.ifs_of(r);
     for i in row {
-        let Ok(()) = found.push(list_at(lists, *i)) else {
+        let list = written(alloc, scratch, topo, &list_at(lists, *i), *i)?;
+        let Ok(()) = found.push(list) else {
             return Err(NoMemory);
         };
     }

@@ -20,9 +20,12 @@ proper_prefixes : (ps : List Prefix) → All IsCidr (map cidr_of ps)
 proper_prefixes [] = All-nil IsCidr
 proper_prefixes (p ∷ ps) = All-cons IsCidr (cidr_of p) (map cidr_of ps) (record { short = p.short; aligned = p.aligned }) (proper_prefixes ps)
 
+pub proper_line : (l : Line) → IsProperLine (line_of l)
+proper_line l = record { src = proper_prefixes l.src.now; dst = proper_prefixes l.dst.now }
+
 pub proper_lines : (lines : List Line) → AreProperLines (map line_of lines)
 proper_lines [] = All-nil IsProperLine
-proper_lines (l ∷ lines) = All-cons IsProperLine (line_of l) (map line_of lines) (record { src = proper_prefixes l.src.now; dst = proper_prefixes l.dst.now }) (proper_lines lines)
+proper_lines (l ∷ lines) = All-cons IsProperLine (line_of l) (map line_of lines) (proper_line l) (proper_lines lines)
 
 -- ---- the first pass
 

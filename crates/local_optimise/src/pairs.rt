@@ -5,6 +5,7 @@ ghost use Rattle.policy_model.specs.Filters.{line_covers, line_meets};
 ghost use Rattle.policy_model.specs.Optimised.{same_action};
 ghost use Rattle.box_algebra.specs.Shown.{header_box_of};
 ghost use Rattle.dev_config.specs.Seen.{line_of};
+ghost use Rattle.local_optimise.specs.Held.{is_across};
 
 use crate::ends::{end_covers, end_meets};
 use box_algebra::{Box4, covers, meets};
@@ -65,9 +66,16 @@ pub(crate) fn is_meeting(one: &Line<'_>, other: &Line<'_>) -> bool
         && transport_meets(one.t, other.t)
 }
 
-/// Whether both lines permit, or both deny.
-pub(crate) fn is_same_action(one: &Line<'_>, other: &Line<'_>) -> bool
+// Whether both lines permit, or both deny.
+fn is_same_action(one: &Line<'_>, other: &Line<'_>) -> bool
     ensures { result ≡ same_action one.now.permit other.now.permit }
 {
     one.permit == other.permit
+}
+
+/// Whether the other line has the other action and meets the line.
+pub(crate) fn is_crossing(line: &Line<'_>, other: &Line<'_>) -> bool
+    ensures { result ≡ is_across (line_of line.now) (line_of other.now) }
+{
+    !is_same_action(line, other) && is_meeting(other, line)
 }

@@ -12,12 +12,13 @@ use Rattle.policy_laws.specs.Shaped.{IsShaped}
 use Rattle.topology.specs.Sound.{IsSound}
 use Rattle.meaning_laws.specs.Tables.{meaning_of}
 use Rattle.meaning_laws.proofs.MeaningThere.{meaning_found}
+use Rattle.policy_laws.proofs.Shapes.{secured}
 use Rattle.shadow_laws.proofs.Distinct.{distinct_prefixes}
 use Rattle.shape_laws.proofs.Lists.{list_there, lists_by_router_pass}
 use Rattle.policy_outcome.specs.Files.{config_for}
 use Rattle.policy_outcome.specs.Outcome.{Written, lists_for, written_for, outcome_for}
 use Rattle.policy_outcome.specs.Exact.{DecidesExactly, configs_for}
-use Rattle.outcome_laws.proofs.Listed.{lists_written}
+use Rattle.outcome_laws.proofs.Listed.{own_written, lists_written, written_decide}
 use Rattle.outcome_laws.proofs.Untold.{IsUntold, untold, no_tag_fault, no_view_fault}
 use Rattle.outcome_laws.proofs.Direct.{send_direct}
 
@@ -28,7 +29,8 @@ decides_own m written told its sound shaped wired =
     let none = no_view_fault m told.views in
     let tags = no_tag_fault m sound told.tags in
     let distinct = distinct_prefixes m.site.policy m its sound tags none in
-    let pass = lists_by_router_pass m.site.policy m config its shaped distinct (lists_written m) in
+    let safe = secured m.site m.areas shaped m.views distinct in
+    let pass = lists_by_router_pass m.site.policy m config (own_written m) its shaped distinct (λ i below managed. written_decide m safe i below) (lists_written m) in
     record {
       meaning = m;
       is_its = its;
@@ -36,7 +38,7 @@ decides_own m written told its sound shaped wired =
       walks = pass.0;
       devices = pass.1;
       entering = pass.2;
-      lists = list_there m config (lists_written m);
+      lists = list_there m.site.policy config (own_written m) (lists_written m);
       direct = send_direct m its shaped wired distinct none;
     }
 

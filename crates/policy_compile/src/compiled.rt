@@ -34,7 +34,7 @@ pub struct Summary {
     pub permits: u64,
     /// how many of these have both ends in one zone
     pub local: u64,
-    /// how many lines the lists have, the last deny of each among them
+    /// how many lines the lists have as they are written, the last deny of each among them
     pub lines: u64,
     /// how many routes
     pub routes: u64,
@@ -106,7 +106,7 @@ pub fn compile(alloc: Global, topo: Topo<'_>) -> Result<Compiled, Refusal>
         &found.views,
         &found.permits,
     )?;
-    let made = device_files(alloc, topo, &lists)?;
+    let made = device_files(alloc, &scratch, topo, &lists)?;
     let summary = summarize(topo, &found, &made);
     Ok(Compiled {
         files: made.files,

@@ -9,7 +9,7 @@ use Rattle.policy_model.specs.Routes.{next_hops, lookup, is_static}
 use Rattle.policy_model.specs.Blocks.{list_at}
 use Rattle.policy_model.specs.Passing.{Config, config_of, list_in}
 use Rattle.policy_model.specs.Headline.{Meaning, IsMeaning, IsUnderWay, TranslatesNoneInside, WalksPass, DevicesPass, ListsPass, permits_in}
-use Rattle.policy_outcome.specs.Files.{config_for}
+use Rattle.policy_outcome.specs.Files.{as_written, config_for}
 use Rattle.policy_outcome.specs.Outcome.{lists_for}
 
 -- the configurations of the managed routers, in order
@@ -30,7 +30,8 @@ TablesSendDirect m configs =
 
 -- The main theorem: there are the policy's zones, views and areas, no network is translated in its own zone, and with these the devices of an allowed
 -- walk pass an unambiguous packet exactly if it is permitted or a reply, all of them and each by itself, and the list by which it enters passes a reply only
--- at a router without state. The list at each managed interface is the policy's. Where a walk leaves a static router straight into the destination's network,
+-- at a router without state. The list at each managed interface is the policy's, optimised and, where the router's dialect is
+-- grouped, grouped. Where a walk leaves a static router straight into the destination's network,
 -- the router's table sends such a packet there; of other crossings nothing is claimed until routes are written.
 pub record DecidesExactly (p : Policy) (configs : List Config) : Type 0 where
   pub meaning : Meaning
@@ -39,5 +40,5 @@ pub record DecidesExactly (p : Policy) (configs : List Config) : Type 0 where
   pub walks : WalksPass meaning configs
   pub devices : DevicesPass meaning configs
   pub entering : ListsPass meaning configs
-  pub lists : (i : ℕ) → i < length p.ifaces → IsTrue (is_managed p (router_at p i)) → list_in p configs i ≡ list_at meaning.site meaning.views (permits_in meaning) i
+  pub lists : (i : ℕ) → i < length p.ifaces → IsTrue (is_managed p (router_at p i)) → list_in p configs i ≡ as_written p i (list_at meaning.site meaning.views (permits_in meaning) i)
   pub direct : TablesSendDirect meaning configs

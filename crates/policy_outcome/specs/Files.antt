@@ -1,17 +1,24 @@
 -- The files of a policy's managed routers, by the access lists of its interfaces.
-use Rattle.std.specs.Prelude.{ℕ, List, [], map, filter, sum_by, length, slice_index_or, Option, Some, None}
+use Rattle.std.specs.Prelude.{ℕ, List, [], map, filter, sum_by, length, slice_index_or, Option, Some, None, if◌then◌else◌}
 use Rattle.spoc_base.specs.declared.dialect.Dialect.{Dialect}
 use Rattle.spoc_base.specs.declared.dialect.Dialect.TheVariants.{Ios}
 use Rattle.policy_model.specs.Policy.{Policy, Device, router_of, iface_of, is_managed, managed_routers}
 use Rattle.policy_model.specs.Tags.{ifaces_of}
 use Rattle.policy_model.specs.Filters.{Line}
+use Rattle.policy_model.specs.Blocks.{is_grouped_at}
+use Rattle.policy_model.specs.Optimised.{optimised_lines}
+use Rattle.policy_model.specs.Grouped.{grouped_lines}
 use Rattle.policy_model.specs.Passing.{Config}
 use Rattle.acl_print.specs.Seen.{PortName}
 use Rattle.acl_print.specs.DeviceText.{device_text}
 
--- the lists of a router's interfaces, in order; routes aren't written yet
+-- The list of an interface as it is written: without needless lines, and grouped where the router's dialect is.
+abbrev pub as_written : Policy → ℕ → List Line → List Line
+as_written p i lines = if is_grouped_at p i then grouped_lines (optimised_lines lines) else optimised_lines lines
+
+-- the lists of a router's interfaces as they are written, in order; routes aren't written yet
 abbrev pub config_for : Policy → List (List Line) → ℕ → Config
-config_for p lists r = record { lists = map (λ i. slice_index_or lists i []) (ifaces_of p r); routes = [] }
+config_for p lists r = record { lists = map (λ i. as_written p i (slice_index_or lists i [])) (ifaces_of p r); routes = [] }
 
 abbrev pub dialect_of : Option Device → Dialect
 dialect_of None = Ios

@@ -146,7 +146,7 @@ pub list_printed : (dialect : Dialect) (lines : List Line) → lines ≢ [] → 
 list_printed Ios lines some each = all_listed (IsPrintedLine Ios) lines (λ l h. line_printed Ios l (each l h))
 list_printed Asa lines some each = (some, all_listed (IsPrintedLine Asa) lines (λ l h. line_printed Asa l (each l h)))
 
-not_none : {A : Type 0} (x : A) (xs : List A) → x ∷ xs ≢ []
+pub not_none : {A : Type 0} (x : A) (xs : List A) → x ∷ xs ≢ []
 not_none x xs e = absurd (cc)
 
 pub ends_in_one : {A : Type 0} (xs : List A) (x : A) → xs ++ x ∷ [] ≢ []

@@ -5,6 +5,8 @@
 ghost use Rattle.std.specs.Prelude.{◌≡◌, ℕ, ◌<◌, List, length, map, None, IsTrue};
 ghost use Rattle.policy_model.specs.Policy.{Policy, router_at, is_managed, managed_routers};
 ghost use Rattle.policy_model.specs.Tags.{ifaces_of};
+ghost use Rattle.policy_model.specs.Filters.{Line};
+ghost use Rattle.policy_model.specs.Laws.{PassAlike};
 ghost use Rattle.policy_model.specs.Blocks.{list_at};
 ghost use Rattle.policy_model.specs.Permits.{Packet};
 ghost use Rattle.policy_model.specs.Packets.{is_packet, is_unambiguous};
@@ -47,25 +49,26 @@ pub fn packets_without_bound_tags_are_unambiguous()
     ensures { (p : Policy) (m : Meaning) → IsMeaning p m → IsUnbound p → (x : Packet) → IsTrue (is_packet m.site m.views x) → IsTrue (is_unambiguous m.site m.views x) }
 {}
 
-/// Configs whose lists at managed interfaces are the policy's own pass an unambiguous packet of an allowed walk exactly if it is permitted or a reply: all
-/// devices of the walk together, and each by itself. The list by which it enters a device passes a reply only where the router has no state.
+/// Configs whose lists at managed interfaces decide each header as the policy's own do pass an unambiguous packet of an allowed walk exactly if it is
+/// permitted or a reply: all devices of the walk together, and each by itself. The list by which it enters a device passes a reply only where the router has
+/// no state.
 pub fn lists_like_the_own_ones_pass()
     ensures { (p : Policy) (m : Meaning) (configs : List Config) → IsMeaning p m → IsShaped p → HasDistinctPrefixes m.site m.views →
-        ((i : ℕ) → i < length p.ifaces → IsTrue (is_managed p (router_at p i)) → list_in p configs i ≡ list_at m.site m.views (permits_in m) i) →
+        ((i : ℕ) → i < length p.ifaces → IsTrue (is_managed p (router_at p i)) → PassAlike (list_at m.site m.views (permits_in m) i) (list_in p configs i)) →
         WalksPass m configs × DevicesPass m configs × ListsPass m configs }
 {}
 
-/// Where each managed router's config has its interfaces' own lists in order, the list at a managed interface is its own.
+/// Where each managed router's config has a list for each of its interfaces, in order, the list at a managed interface is its own.
 pub fn lists_by_router_are_in_order()
-    ensures { (m : Meaning) (config : ℕ → Config) →
-        ((r : ℕ) → IsTrue (is_managed m.site.policy r) → (config r).lists ≡ map (list_at m.site m.views (permits_in m)) (ifaces_of m.site.policy r)) →
-        (i : ℕ) → i < length m.site.policy.ifaces → IsTrue (is_managed m.site.policy (router_at m.site.policy i)) →
-        list_in m.site.policy (map config (managed_routers m.site.policy)) i ≡ list_at m.site m.views (permits_in m) i }
+    ensures { (p : Policy) (config : ℕ → Config) (lists : ℕ → List Line) →
+        ((r : ℕ) → IsTrue (is_managed p r) → (config r).lists ≡ map lists (ifaces_of p r)) →
+        (i : ℕ) → i < length p.ifaces → IsTrue (is_managed p (router_at p i)) → list_in p (map config (managed_routers p)) i ≡ lists i }
 {}
 
-/// So such configs pass an unambiguous packet of an allowed walk exactly if it is permitted or a reply.
+/// So such configs pass an unambiguous packet of an allowed walk exactly if it is permitted or a reply, where each list decides as the policy's own.
 pub fn lists_by_router_pass()
-    ensures { (p : Policy) (m : Meaning) (config : ℕ → Config) → IsMeaning p m → IsShaped p → HasDistinctPrefixes m.site m.views →
-        ((r : ℕ) → IsTrue (is_managed p r) → (config r).lists ≡ map (list_at m.site m.views (permits_in m)) (ifaces_of p r)) →
+    ensures { (p : Policy) (m : Meaning) (config : ℕ → Config) (lists : ℕ → List Line) → IsMeaning p m → IsShaped p → HasDistinctPrefixes m.site m.views →
+        ((i : ℕ) → i < length p.ifaces → IsTrue (is_managed p (router_at p i)) → PassAlike (list_at m.site m.views (permits_in m) i) (lists i)) →
+        ((r : ℕ) → IsTrue (is_managed p r) → (config r).lists ≡ map lists (ifaces_of p r)) →
         WalksPass m (map config (managed_routers p)) × DevicesPass m (map config (managed_routers p)) × ListsPass m (map config (managed_routers p)) }
 {}

@@ -63,11 +63,9 @@ router:u = { interface:n2 = { ip = 10.1.2.2; } interface:sub; }
 const OWN_ZONE_FILE: &str = "\
 ! r1 IOS
 ip access-list extended E1_in
- permit tcp 10.1.1.0 0.0.0.255 10.1.2.128 0.0.0.127 eq 80
  permit tcp 10.1.1.0 0.0.0.255 10.1.2.0 0.0.0.255 eq 80
  deny ip any any
 ip access-list extended E2_in
- permit tcp 10.1.2.128 0.0.0.127 eq 80 10.1.1.0 0.0.0.255 established
  permit tcp 10.1.2.0 0.0.0.255 eq 80 10.1.1.0 0.0.0.255 established
  deny ip any any
 interface E1
@@ -188,7 +186,6 @@ service:s1 = {
 const BOTH_ENDS_R1: &str = "\
 ! r1 IOS
 ip access-list extended E1_in
- deny ip 10.1.0.0 0.0.255.255 192.0.2.0 0.0.0.255
  deny ip 10.0.0.0 0.255.255.255 192.0.2.0 0.0.0.255
  deny ip 10.1.0.0 0.0.255.255 any
  permit tcp 10.0.0.0 0.255.255.255 any eq 80
@@ -218,8 +215,6 @@ ip access-list extended E1_in
 ip access-list extended E2_in
  deny ip any any
 ip access-list extended E3_in
- deny ip 172.16.0.0 0.0.0.3 10.1.0.0 0.0.255.255
- deny ip 192.0.2.0 0.0.0.255 10.1.0.0 0.0.255.255
  deny ip 172.16.0.0 0.0.0.3 10.0.0.0 0.255.255.255
  deny ip 192.0.2.0 0.0.0.255 10.0.0.0 0.255.255.255
  deny ip any 10.1.0.0 0.0.255.255
@@ -334,13 +329,9 @@ service:s1 = {
 const TO_BIG_FILE: &str = "\
 ! r1 IOS
 ip access-list extended E1_in
- permit tcp 10.1.1.0 0.0.0.255 10.2.1.0 0.0.0.255 eq 80
- permit tcp 10.1.1.0 0.0.0.255 10.2.2.0 0.0.0.255 eq 80
  permit tcp 10.1.1.0 0.0.0.255 10.2.0.0 0.0.255.255 eq 80
  deny ip any any
 ip access-list extended E2_in
- permit tcp 10.2.1.0 0.0.0.255 eq 80 10.1.1.0 0.0.0.255 established
- permit tcp 10.2.2.0 0.0.0.255 eq 80 10.1.1.0 0.0.0.255 established
  permit tcp 10.2.0.0 0.0.255.255 eq 80 10.1.1.0 0.0.0.255 established
  deny ip any any
 interface E1
@@ -352,15 +343,9 @@ interface E2
 const TO_A_SET_FILE: &str = "\
 ! r1 IOS
 ip access-list extended E1_in
- permit tcp 10.1.1.0 0.0.0.255 10.2.1.0 0.0.0.255 eq 80
- permit tcp 10.1.1.0 0.0.0.255 10.2.2.0 0.0.0.255 eq 80
- permit tcp 10.1.1.0 0.0.0.255 10.2.2.0 0.0.0.255 eq 80
  permit tcp 10.1.1.0 0.0.0.255 10.2.0.0 0.0.255.255 eq 80
  deny ip any any
 ip access-list extended E2_in
- permit tcp 10.2.1.0 0.0.0.255 eq 80 10.1.1.0 0.0.0.255 established
- permit tcp 10.2.2.0 0.0.0.255 eq 80 10.1.1.0 0.0.0.255 established
- permit tcp 10.2.2.0 0.0.0.255 eq 80 10.1.1.0 0.0.0.255 established
  permit tcp 10.2.0.0 0.0.255.255 eq 80 10.1.1.0 0.0.0.255 established
  deny ip any any
 interface E1
@@ -380,7 +365,7 @@ static ONE_INSIDE: [Case; 2] = [
     // A network inside one of its zone is permitted too: the service is for both, so that nothing has to be shut.
     Case {
         files: &[("p", &[OWN_ZONE])],
-        text: "networks 3\nzones 2\nrouters 1\npermits 2\nlocal 0\nlines 6\nroutes 0\n",
+        text: "networks 3\nzones 2\nrouters 1\npermits 2\nlocal 0\nlines 4\nroutes 0\n",
         held: &[("r1", OWN_ZONE_FILE)],
         ..CASE
     },
@@ -435,7 +420,7 @@ static BOTH: [Case; 1] = [
     // Networks inside both ends are shut: at r1's interface at the link both ends have networks inside; at r2's first interface its own small network is a destination, too.
     Case {
         files: &[("p", &[BOTH_ENDS])],
-        text: "networks 5\nzones 5\nrouters 2\npermits 1\nlocal 0\nlines 22\nroutes 0\n",
+        text: "networks 5\nzones 5\nrouters 2\npermits 1\nlocal 0\nlines 19\nroutes 0\n",
         held: &[("r1", BOTH_ENDS_R1), ("r2", BOTH_ENDS_R2)],
         ..CASE
     },
@@ -467,14 +452,14 @@ static FOR_THOSE_INSIDE: [Case; 2] = [
     // A service to a network is for those inside.
     Case {
         files: &[("p", &[BEHIND_TWO, TO_BIG])],
-        text: "networks 5\nzones 2\nrouters 1\npermits 3\nlocal 0\nlines 8\nroutes 0\n",
+        text: "networks 5\nzones 2\nrouters 1\npermits 3\nlocal 0\nlines 4\nroutes 0\n",
         held: &[("r1", TO_BIG_FILE)],
         ..CASE
     },
     // A set with one network taken out: the set has `big` and `sub2`; `big` is for `sub1` and `sub2`, too, so that `sub2` comes twice.
     Case {
         files: &[("p", &[BEHIND_TWO, TO_A_SET])],
-        text: "networks 5\nzones 2\nrouters 1\npermits 4\nlocal 0\nlines 10\nroutes 0\n",
+        text: "networks 5\nzones 2\nrouters 1\npermits 4\nlocal 0\nlines 4\nroutes 0\n",
         held: &[("r1", TO_A_SET_FILE)],
         ..CASE
     },

@@ -1,5 +1,5 @@
-use Rattle.shape_laws.proofs.Lists.{own_lists_pass}
+use Rattle.shape_laws.proofs.Lists.{lists_alike_pass}
 use Rattle.shape_laws.proofs.lists_like_the_own_ones_pass.Goals as goal
 
 pub returns : goal.returns
-returns c = own_lists_pass
+returns c = lists_alike_pass

@@ -1,0 +1,5 @@
+pub mod Alone
+pub mod Numbers
+pub mod Entries
+pub mod Lines
+pub mod Seen

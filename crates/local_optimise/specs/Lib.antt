@@ -1,0 +1,4 @@
+pub mod Keys
+pub mod Chained
+pub mod Held
+pub mod Remaining

@@ -1,0 +1,4 @@
+pub mod Found
+pub mod Chains
+pub mod Tables
+pub mod Ways
